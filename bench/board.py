@@ -23,7 +23,7 @@ sys.dont_write_bytecode = True
 import programs  # programs.py, in this folder
 
 NAME = "board_bench"
-NEEDS = "cu_num cu_shape cu_grid cu_store cu_history cu_turn cu_op cu_table cu_board arrayvec anyhow".split()
+NEEDS = "cu_num cu_shape cu_grid cu_store cu_history cu_lock cu_op cu_table cu_board arrayvec anyhow".split()
 TASKS, SOME = 65536, 2000
 # At most so many nanoseconds a pair, and so many times the needed processor time with so many workers.
 PAIR_AIM, WAIT_AIMS = 1000, {4: 1.2, 64: 1.8}
@@ -39,7 +39,7 @@ ghost use Rattle.std.specs.Prelude.{◌≡◌, ◌<◌, ◌≤◌, ◌^◌, fals
 ghost use Rattle.cu_table.specs.Numbers.{task_count};
 ghost use Rattle.cu_board.specs.Board.{IsResting};
 ghost use Rattle.cu_board.specs.Views.{SeatAt, IsSeatOf, BoardView};
-ghost use Rattle.cu_turn.specs.Views.{first_root};
+ghost use Rattle.cu_lock.specs.Views.{first_root};
 
 mod idle;
 mod plan;
@@ -422,8 +422,8 @@ use Rattle.cu_table.specs.declared.claim.Claim.{Claim}
 use Rattle.cu_table.specs.declared.claim.Claim.TheVariants as claim
 use Rattle.cu_table.specs.Own.{left_running}
 use Rattle.cu_table.specs.Table.{TableView, start_event, end_of, report_kind, is_late}
-use Rattle.cu_turn.specs.declared.view.SeatView.{SeatView}
-use Rattle.cu_turn.proofs.Fronts.{own-append}
+use Rattle.cu_lock.specs.declared.view.SeatView.{SeatView}
+use Rattle.cu_lock.proofs.Fronts.{own-append}
 use Rattle.cu_board.specs.Board.{IsResting, IsRunning, IsTurnOf, IsTableLeft, IsClaimTurn, IsReportTurn}
 
 left-snoc : (now : Option (ℕ × ℕ)) (xs : List Entry) (e : Entry) → left_running now (xs ++ e ∷ []) ≡ cond (is_start e.kind) (Some (e.op, e.task)) None

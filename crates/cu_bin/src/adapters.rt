@@ -1,7 +1,5 @@
 //! Standard input and output as a source and a sink. Which bytes pass is told by no clause.
-ghost use Rattle.std.specs.Prelude.{◌≡◌, ℕ, List, Option, None, length, ◌<◌, ◌≤◌, IfOk, OnErr};
-ghost use Rattle.cu_store.specs.Faults.{Rose};
-ghost use Rattle.cu_store.specs.Streams.{Takes, Appends};
+ghost use Rattle.std.specs.Prelude.{◌≡◌, None};
 
 use cu_store::{Failed, Sink, Source};
 use std::io::{Input, Print, Read};

@@ -3,9 +3,9 @@ use Rattle.std.proofs.Common.{◌≡◌, ℕ, true, false, List, ◌++◌, sym, 
 use Rattle.cu_history.specs.declared.entry.Entry.{Entry}
 use Rattle.cu_history.specs.History.{has_halt}
 use Rattle.cu_table.specs.Table.{TableView}
-use Rattle.cu_turn.specs.declared.view.SeatView.{SeatView}
-use Rattle.cu_turn.specs.Rule.{AllOf}
-use Rattle.cu_turn.specs.Views.{informed}
+use Rattle.cu_lock.specs.declared.view.SeatView.{SeatView}
+use Rattle.cu_lock.specs.Rule.{AllOf}
+use Rattle.cu_lock.specs.Views.{informed}
 use Rattle.cu_board.specs.Board.{halted_fault, IsGrownBy}
 
 -- a table that has grown by entries of the seat's number, at the view that has the turn

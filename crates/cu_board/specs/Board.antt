@@ -12,7 +12,7 @@ use Rattle.cu_op.specs.Arrays.{chunk_room}
 use Rattle.cu_op.specs.PlanView.{PlanView}
 use Rattle.cu_op.specs.Schedule.{op_of, key_of}
 use Rattle.cu_op.specs.Walks.{written_chunks, read_chunks}
-use Rattle.cu_state.specs.Pieces.{IsInputChunk}
+use Rattle.cu_run_law.specs.Pieces.{IsInputChunk}
 use Rattle.cu_table.specs.declared.claim.Claim.{Claim}
 use Rattle.cu_table.specs.declared.claim.Claim.TheVariants.{Run, Halted}
 use Rattle.cu_table.specs.declared.state.Ending.{Ending}
@@ -22,9 +22,9 @@ use Rattle.cu_table.specs.Machine.{Machine, IsDone}
 use Rattle.cu_table.specs.Own.{left_running}
 use Rattle.cu_table.specs.Step.{Replays}
 use Rattle.cu_table.specs.Table.{TableView, IsClaim, IsReported, end_of, report_kind, is_late}
-use Rattle.cu_turn.specs.declared.view.SeatView.{SeatView}
-use Rattle.cu_turn.specs.Rule.{IsPrefix, AllOf}
-use Rattle.cu_turn.specs.Views.{informed}
+use Rattle.cu_lock.specs.declared.view.SeatView.{SeatView}
+use Rattle.cu_lock.specs.Rule.{IsPrefix, AllOf}
+use Rattle.cu_lock.specs.Views.{informed}
 
 -- ---- what a pass has seen
 

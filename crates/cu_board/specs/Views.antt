@@ -2,7 +2,7 @@
 use Rattle.std.specs.Prelude.{◌≡◌, Bool}
 use Rattle.atomic_table.specs.Seated.{TableId}
 use Rattle.cu_table.specs.Table.{TableView}
-use Rattle.cu_turn.specs.declared.view.SeatView.{SeatView}
+use Rattle.cu_lock.specs.declared.view.SeatView.{SeatView}
 
 -- a seat: which board it is of, and what it knows
 pub record SeatAt : Type 0 where

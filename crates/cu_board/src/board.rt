@@ -1,19 +1,19 @@
 //! The board: a lock over a table and a pass.
-ghost use Rattle.std.specs.Prelude.{◌≡◌, ℕ, ◌+◌, ◌<◌, ◌^◌, min, [], ◌∷◌, true, false, Contains, IfOk, IfErr};
+ghost use Rattle.std.specs.Prelude.{◌≡◌, ℕ, ◌<◌, min, [], true, false, Contains, IfOk, IfErr};
 ghost use Rattle.cu_store.specs.Faults.{last_count};
 ghost use Rattle.cu_store.specs.Yard.{IsLater};
-ghost use Rattle.cu_turn.specs.Rule.{IsPrefix, Each, AllBelow, IsKnownFront};
-ghost use Rattle.cu_turn.specs.Views.{first_root, split_root, split_off, root_joined, joined_numbers};
+ghost use Rattle.cu_lock.specs.Rule.{IsPrefix, Each, AllBelow, IsKnownFront};
+ghost use Rattle.cu_lock.specs.Views.{first_root, split_root, split_off, root_joined, joined_numbers};
 ghost use Rattle.cu_board.specs.Board.{IsBoardState, SeesDone, IsClaimTurn, IsReportTurn, IsResting, IsRunning, UnlessRun, MayReport, LeavesCount, halted_fault};
-ghost use Rattle.cu_board.specs.Views.{SeatAt, BoardView, IsSeatOf};
+ghost use Rattle.cu_board.specs.Views.{BoardView, IsSeatOf};
 
 use crate::seat::BoardSeat;
 use crate::state::{BoardState, Made};
 use crate::turns::{claim_in, report_in};
 use atomic_table::Badge;
+use cu_lock::Turn;
 use cu_store::{TaskFault, Yard};
 use cu_table::{Claim, Table};
-use cu_turn::Turn;
 use std::alloc::Global;
 use std::marker::{Brand, Model};
 use std::mem;

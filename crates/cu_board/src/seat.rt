@@ -1,6 +1,6 @@
 //! What a worker knows of the board.
 use atomic_table::Badge;
-use cu_turn::SeatView;
+use cu_lock::SeatView;
 use std::marker::Model;
 
 /// A seat at a board: its root, or a worker's. Contracts see which board it is of, and what the seat knows.
@@ -15,7 +15,7 @@ pub struct BoardSeat {
 
 impl Model for BoardSeat {
     ghost use Rattle.std.specs.Prelude.{◌≡◌, [], ◌∷◌, true, false};
-    ghost use Rattle.cu_turn.specs.Seats.{first_view};
+    ghost use Rattle.cu_lock.specs.Seats.{first_view};
     ghost use Rattle.cu_board.specs.Views.{SeatAt};
 
     ghost Value = { SeatAt };

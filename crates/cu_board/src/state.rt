@@ -1,7 +1,7 @@
 //! What lies inside the board.
+use cu_lock::HasHistory;
 use cu_store::Yard;
 use cu_table::Table;
-use cu_turn::HasHistory;
 use std::snapshot::Snapshot;
 
 /// The table, and a pass that has seen the cells of each task that is done.

@@ -1,5 +1,5 @@
 //! Boxes of elements that are copied between arrays, each array being row-major bytes.
-ghost use Rattle.std.specs.Prelude.{◌≡◌, ℕ, ◌+◌, ◌-◌, ◌*◌, ◌<◌, ◌≤◌, ◌^◌, List, length, slice_index, slice_set};
+ghost use Rattle.std.specs.Prelude.{◌≡◌, ◌+◌, ◌-◌, ◌*◌, ◌<◌, ◌≤◌, ◌^◌, length, slice_index};
 ghost use Rattle.cu_num.specs.Element.{IsSize};
 ghost use Rattle.cu_shape.specs.Index.{product, place_of, sums, IsInside};
 ghost use Rattle.cu_box.specs.Box.{IsBox, IsCopied};

@@ -4,8 +4,8 @@ use Rattle.cu_store.specs.Held.{Contents, Write, IsAmong}
 use Rattle.cu_store.specs.Steps.{Shown}
 use Rattle.cu_op.specs.Value.{stored_inputs}
 use Rattle.cu_lower.specs.declared.options.Options.{Options}
-use Rattle.cu_state.specs.Left.{IsQuiet}
-use Rattle.cu_state.specs.Pieces.{PlanRun}
+use Rattle.cu_run_law.specs.Left.{IsQuiet}
+use Rattle.cu_run_law.specs.Pieces.{PlanRun}
 use Rattle.cu_top.specs.Demo.{IsDemoCalm, WhereTold}
 use Rattle.cu_top.specs.Held.{IsLeftBy, IsLeftEntry}
 use Rattle.cu_top.specs.Prepare.{HasNoOwnInput}

@@ -1,5 +1,5 @@
 //! The words of one cell, stored and loaded.
-ghost use Rattle.std.specs.Prelude.{◌≡◌, ◌+◌, ◌*◌, ◌<◌, ◌≤◌, ◌^◌, ◌/◌, ◌%◌, ℕ, [], ◌∷◌, true, length, slice_index};
+ghost use Rattle.std.specs.Prelude.{◌≡◌, ◌+◌, ◌<◌, ◌≤◌, ◌^◌, ◌/◌, ◌%◌, ℕ, [], ◌∷◌, true, length, slice_index};
 ghost use Rattle.std.specs.Int.{w64, to_le_bytes};
 ghost use Rattle.cu_cells.specs.Layout.{flag_count, first_word, cell_size, value_at, word_total, word_count};
 ghost use Rattle.cu_cells.specs.Cells.{IsLaidCell};

@@ -1,8 +1,8 @@
 //! The six kinds of step: a data word is stored, a flag is set, a flag is loaded, a data word is
 //! loaded, seats are split and joined.
-ghost use Rattle.std.specs.Prelude.{◌≡◌, ◌≢◌, ◌+◌, ◌<◌, ◌≤◌, ℕ, IsTrue, [], ◌∷◌, true, false};
-ghost use Rattle.cu_cells.specs.Layout.{flag_count, first_word, cell_size, value_at, word_total, is_named_cell};
-ghost use Rattle.cu_cells.specs.Rule.{HasStored, IsIn, both_views, StoresWord, SeesCell, LandsCell, LooksAt, ReadsWord};
+ghost use Rattle.std.specs.Prelude.{◌≡◌, ◌<◌, ◌≤◌, IsTrue, [], true, false};
+ghost use Rattle.cu_cells.specs.Layout.{flag_count, value_at, word_total, is_named_cell};
+ghost use Rattle.cu_cells.specs.Rule.{HasStored, IsIn, both_views, StoresWord, SeesCell, LandsCell, ReadsWord};
 ghost use Rattle.atomic_table.specs.Table.{step};
 ghost use mathlib.Core.Option.{none};
 

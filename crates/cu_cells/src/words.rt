@@ -1,5 +1,5 @@
 //! Bytes as words of eight, lowest first.
-ghost use Rattle.std.specs.Prelude.{◌≡◌, ◌+◌, ◌-◌, ◌<◌, ◌≤◌, ℕ, length, drop, slice_index};
+ghost use Rattle.std.specs.Prelude.{◌≡◌, ◌+◌, ◌<◌, ◌≤◌, ℕ, length, drop, slice_index};
 ghost use Rattle.std.specs.Int.{w64, from_le_bytes, to_le_bytes};
 
 /// A byte, or 0 past the end.

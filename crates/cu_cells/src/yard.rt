@@ -1,5 +1,5 @@
 //! Cells as a yard.
-ghost use Rattle.std.specs.Prelude.{◌≡◌, ◌≢◌, ◌↔◌, ◌+◌, ◌<◌, ◌≤◌, ◌||◌, [], ◌∷◌, ℕ, List, min, map, true, false, IsTrue, OnOk, OnErr, Some, Ok, Err, length};
+ghost use Rattle.std.specs.Prelude.{◌≡◌, ◌≢◌, ◌↔◌, ◌+◌, ◌<◌, ◌≤◌, ◌||◌, [], ℕ, List, min, map, true, false, IsTrue, OnOk, OnErr, Some, Ok, Err, length};
 ghost use Rattle.std.specs.Str.{bytes_eq};
 ghost use Rattle.cu_store.specs.Faults.{last_count};
 ghost use Rattle.cu_store.specs.Held.{Gets, Holds};

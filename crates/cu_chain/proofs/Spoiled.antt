@@ -18,8 +18,8 @@ use Rattle.cu_grid.specs.Grid.{IsCoordinate}
 use Rattle.cu_op.specs.Schedule.{key_of, cell_value, op_of}
 use Rattle.cu_op.specs.Elements.{Elements}
 use Rattle.cu_op.specs.Value.{stored_inputs, HasTypes}
-use Rattle.cu_state.specs.Left.{IsLeft}
-use Rattle.cu_state.specs.Pieces.{chunks_alone, Chunk, PlanRun, Piece, IsPiece, piece_key, KeysApart, HoldsPiece}
+use Rattle.cu_run_law.specs.Left.{IsLeft}
+use Rattle.cu_run_law.specs.Pieces.{chunks_alone, Chunk, PlanRun, Piece, IsPiece, piece_key, KeysApart, HoldsPiece}
 use Rattle.cu_history.specs.declared.entry.Entry.{Entry}
 use Rattle.cu_history.specs.declared.entry.EventKind.{EventKind}
 use Rattle.cu_history.specs.declared.entry.EventKind.TheVariants.{Start, Done}
@@ -36,9 +36,9 @@ use Rattle.cu_name.specs.Name.{IsArrayName}
 use Rattle.cu_zarr.specs.Key.{metadata_key_of}
 use Rattle.cu_op.specs.InputCells.{input_cells}
 use Rattle.cu_op.proofs.TaskCells.{written_cell}
-use Rattle.cu_state.specs.Names.{HasPlanNames}
-use Rattle.cu_state.proofs.PlanNames.{keys_apart}
-use Rattle.cu_state.proofs.Keeping.{left_at_first, left_alone}
+use Rattle.cu_run_law.specs.Names.{HasPlanNames}
+use Rattle.cu_run_law.proofs.PlanNames.{keys_apart}
+use Rattle.cu_run_law.proofs.Keeping.{left_at_first, left_alone}
 use Rattle.cu_chain.proofs.Chains.{chain_sound}
 use Rattle.cu_table.specs.Numbers.{IsTask, task_number}
 use Rattle.cu_chain.specs.Weakened.{AllMay, HappensEarly, HappensUnstored, HappensAnyhow}

@@ -1,5 +1,5 @@
 //! A plan of two sums, of which the second reads what the first makes: y = (a + b) + b, over six int32 numbers in chunks of four.
-ghost use Rattle.std.specs.Prelude.{◌≡◌, ◌≤◌, IfOk, length};
+ghost use Rattle.std.specs.Prelude.{◌≡◌, IfOk};
 ghost use Rattle.cu_num.specs.declared.types.Dtype.TheVariants.{Int32 as Numbers};
 ghost use Rattle.cu_op.specs.OneMap.{addition_of};
 ghost use Rattle.cu_chain.specs.Chain.{six_in_fours, array_under};

@@ -17,8 +17,8 @@ use Rattle.cu_expr.specs.Typing.{typed, typed_node}
 use Rattle.cu_expr.specs.declared.inputs.InputInfo.{InputInfo}
 use Rattle.cu_mean.specs.Plain.{PlainArray}
 use Rattle.cu_mean.specs.Whole.{AreInputNodes, HoldsElements, HoldInputs, HoldMeaning}
-use Rattle.cu_meaning.specs.Argument.{NodeElements, shape_of_node}
-use Rattle.cu_meaning.specs.Meaning.{meaning_of}
+use Rattle.cu_semantics.specs.Argument.{NodeElements, shape_of_node}
+use Rattle.cu_semantics.specs.Meaning.{meaning_of}
 use Rattle.cu_op.specs.Layout.{layout_view}
 use Rattle.cu_store.specs.Faults.{Rose}
 use Rattle.cu_store.specs.Held.{Contents}

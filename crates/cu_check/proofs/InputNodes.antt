@@ -24,7 +24,7 @@ use Rattle.cu_mean.specs.Node.{is_input}
 use Rattle.cu_mean.specs.Plain.{PlainArray, IsPlain}
 use Rattle.cu_mean.specs.Reading.{HasTypeAndShape}
 use Rattle.cu_mean.specs.Whole.{is_input_node, inputs_before, AreInputNodes, HoldsElements, HoldInputs}
-use Rattle.cu_meaning.specs.Argument.{NodeElements}
+use Rattle.cu_semantics.specs.Argument.{NodeElements}
 use Rattle.cu_op.specs.Layout.{layout_view}
 use Rattle.cu_op.specs.declared.layout.Layout.{Layout}
 use Rattle.cu_store.specs.Faults.{Rose}

@@ -5,9 +5,9 @@ use Rattle.cu_form.specs.Expression.{Expression}
 use Rattle.cu_node.specs.declared.info.NodeInfo.{NodeInfo}
 use Rattle.cu_expr.specs.declared.inputs.InputInfo.{InputInfo}
 use Rattle.cu_read.specs.Read.{expression_of}
-use Rattle.cu_meaning.specs.Argument.{shape_of_node}
-use Rattle.cu_meaning.specs.Meaning.{meaning_of}
-use Rattle.cu_meaning.specs.Typed.{type_of_node}
+use Rattle.cu_semantics.specs.Argument.{shape_of_node}
+use Rattle.cu_semantics.specs.Meaning.{meaning_of}
+use Rattle.cu_semantics.specs.Typed.{type_of_node}
 use Rattle.cu_op.specs.Layout.{layout_view}
 use Rattle.cu_store.specs.Faults.{Rose}
 use Rattle.cu_store.specs.Held.{Contents, IsGone}

@@ -2,7 +2,7 @@
 use Rattle.std.specs.Prelude.{ℕ, ℤ, pos, List, Option, Some, None, slice_get, unwrap_or}
 use Rattle.cu_form.specs.declared.expr.Node.{Node}
 use Rattle.cu_form.specs.declared.form.Form.{Form}
-use Rattle.cu_meaning.specs.Argument.{NodeElements}
+use Rattle.cu_semantics.specs.Argument.{NodeElements}
 use Rattle.cu_op.specs.Layout.{layout_view}
 use Rattle.cu_store.specs.Held.{Contents}
 use Rattle.cu_zarr.specs.Stored.{stored_element}

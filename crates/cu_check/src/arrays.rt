@@ -1,14 +1,13 @@
 //! Stored arrays, read into memory: as bytes, or element by element.
-ghost use Rattle.std.specs.Prelude.{◌≡◌, ◌+◌, ◌*◌, ◌≤◌, ◌^◌, ◌++◌, ◌∷◌, [], ℕ, true, length, IfErr, IfOk, OnOk};
+ghost use Rattle.std.specs.Prelude.{◌≡◌, ◌+◌, ◌*◌, ◌≤◌, ◌^◌, ◌++◌, ◌∷◌, [], true, length, IfErr, IfOk, OnOk};
 ghost use Rattle.cu_num.specs.Dtype.{size_of};
 ghost use Rattle.cu_name.specs.Name.{is_name};
 ghost use Rattle.cu_shape.specs.Index.{product};
 ghost use Rattle.cu_store.specs.Steps.{Shown, NoChange};
 ghost use Rattle.cu_command.specs.Seen.{Stepped, WithinCalls};
 ghost use Rattle.cu_command.specs.Stored.{IsArrayLayout};
-ghost use Rattle.cu_mean.specs.Plain.{IsPlain};
-ghost use Rattle.cu_check.specs.Arrays.{IsOwnTurn, input_chunk_count};
-ghost use Rattle.cu_check.specs.Chunks.{HasAllSteady, AtEachEntry, IsChunkFault, IsArrayFault};
+ghost use Rattle.cu_check.specs.Arrays.{input_chunk_count};
+ghost use Rattle.cu_check.specs.Chunks.{HasAllSteady, AtEachEntry, IsArrayFault};
 ghost use Rattle.cu_check.specs.Plains.{AreNumbers, IsReadArray};
 
 use crate::chunks::read_chunks;

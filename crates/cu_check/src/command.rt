@@ -1,6 +1,5 @@
 //! The command: the text, the metadata, the chunks, the elements, and the line.
-ghost use Rattle.std.specs.Prelude.{◌≡◌, ◌+◌, ◌*◌, true, All, Ok, IfErr, OnOk};
-ghost use Rattle.cu_name.specs.Name.{is_name};
+ghost use Rattle.std.specs.Prelude.{◌≡◌, ◌+◌, ◌*◌, All, Ok, IfErr, OnOk};
 ghost use Rattle.cu_expr.specs.Typing.{typed};
 ghost use Rattle.cu_store.specs.Steps.{Shown, NoChange};
 ghost use Rattle.cu_command.specs.Seen.{Stepped, WithinCalls, stream, seen};

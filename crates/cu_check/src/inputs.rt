@@ -1,5 +1,5 @@
 //! The arrays of an expression's input nodes.
-ghost use Rattle.std.specs.Prelude.{◌≡◌, ◌+◌, ◌*◌, ◌++◌, ◌∷◌, [], ℕ, List, true, All, length, IfErr, IfOk, OnOk};
+ghost use Rattle.std.specs.Prelude.{◌≡◌, ◌+◌, ◌*◌, ◌++◌, ◌∷◌, [], List, true, All, IfErr, IfOk, OnOk};
 ghost use Rattle.cu_form.specs.Expression.{IsExpression};
 ghost use Rattle.cu_form.specs.Form.{in_ranges};
 ghost use Rattle.cu_expr.specs.declared.inputs.InputInfo.{InputInfo as Input};

@@ -1,5 +1,5 @@
 //! The keys under which a depot holds an array (Zarr v3 core, "Chunk key encoding").
-ghost use Rattle.std.specs.Prelude.{◌≡◌, ◌+◌, ◌*◌, ◌-◌, ◌<◌, ◌≤◌, [], ◌∷◌, ◌++◌, length, drop, All, decimal, codes};
+ghost use Rattle.std.specs.Prelude.{◌≡◌, ◌+◌, ◌*◌, ◌-◌, ◌<◌, ◌≤◌, [], ◌∷◌, ◌++◌, length, drop, All, decimal};
 ghost use Rattle.cu_zarr.specs.Key.{separator, separated, coordinates, chunk_key_of, metadata_key_of, zarray_key_of};
 
 use arrayvec::ArrayString;

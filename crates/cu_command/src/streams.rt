@@ -1,5 +1,5 @@
 //! Whole texts from a source and to a sink.
-ghost use Rattle.std.specs.Prelude.{◌≡◌, ℕ, ◌≤◌, length, IfOk, IfErr, OnOk, OnErr};
+ghost use Rattle.std.specs.Prelude.{ℕ, ◌≤◌, length, IfOk, OnOk, OnErr};
 ghost use Rattle.cu_store.specs.Faults.{Rose};
 ghost use Rattle.cu_command.specs.Streams.{ReadsAll, WroteFront, IsCaused};
 

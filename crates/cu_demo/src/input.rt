@@ -2,7 +2,7 @@
 ghost use Rattle.std.specs.Prelude.{◌≡◌, ◌<◌, ◌≤◌, ◌^◌, [], ◌∷◌, pos, IfOk, min, true};
 ghost use Rattle.cu_name.specs.Name.{is_name};
 ghost use Rattle.cu_demo.specs.Input.{demo_chunk, demo_element, demo_elements, demo_layout};
-ghost use Rattle.cu_demo.specs.Input.{demo_name, demo_shape};
+ghost use Rattle.cu_demo.specs.Input.{demo_name};
 
 use cu_grid::Grid;
 use cu_name::IdText;

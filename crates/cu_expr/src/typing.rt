@@ -1,12 +1,12 @@
-ghost use Rattle.std.specs.Prelude.{◌≡◌, ◌<◌, ◌^◌, ℕ, List, true, All, IfOk, OnOk, ◌++◌, ◌∷◌, [], map, length, bytes_eq, slice_get, Some};
+ghost use Rattle.std.specs.Prelude.{◌≡◌, ◌<◌, ◌^◌, true, All, IfOk, OnOk, ◌++◌, ◌∷◌, [], length};
 ghost use Rattle.std.specs.HashMap.{get_by_text};
-ghost use Rattle.cu_form.specs.Form.{args_of, in_ranges, takes_args, HasShortIndex, IsForm};
+ghost use Rattle.cu_form.specs.Form.{in_ranges, HasShortIndex, IsForm};
 ghost use Rattle.cu_node.specs.Info.{IsInfo};
 ghost use Rattle.cu_typing.specs.Joined.{arrays_of};
 ghost use Rattle.cu_expr.specs.Answer.{IsAnswer};
-ghost use Rattle.cu_expr.specs.Inputs.{stored_of, named_input};
+ghost use Rattle.cu_expr.specs.Inputs.{stored_of};
 ghost use Rattle.cu_expr.specs.Premises.{HaveGrids, HasArrays};
-ghost use Rattle.cu_expr.specs.Typing.{told_of, typed_reduced, typed_form, at_node, typed_node, typed};
+ghost use Rattle.cu_expr.specs.Typing.{told_of, typed_reduced, typed_form, at_node, typed};
 
 use crate::inputs::{InputInfo, by_name, stored_info};
 use crate::told::{arguments, arrays, known};

@@ -1,6 +1,6 @@
 //! Arrays that are made from no other, views of one array and arrays put together, by their forms.
 
-ghost use Rattle.std.specs.Prelude.{◌≡◌, ◌<◌, true, All, IfOk, length};
+ghost use Rattle.std.specs.Prelude.{◌≡◌, true, All, IfOk, length};
 ghost use Rattle.cu_form.specs.Form.{in_ranges, HasShortIndex};
 ghost use Rattle.cu_node.specs.Info.{IsInfo};
 ghost use Rattle.cu_expr.specs.Premises.{HasArrays};

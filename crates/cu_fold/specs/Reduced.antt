@@ -1,6 +1,6 @@
 -- Which axes of a region are reduced.
 use Rattle.std.specs.Prelude.{ℕ, ◌==◌, Bool}
-use Rattle.cu_pull.specs.Pull.{has_axis}
+use Rattle.cu_origin.specs.Pull.{has_axis}
 use Rattle.cu_fold.specs.declared.levels.Reduced.{Reduced}
 use Rattle.cu_fold.specs.declared.levels.Reduced.TheVariants.{Set, One}
 

@@ -1,5 +1,5 @@
 //! Elements along the last level taken into their results.
-ghost use Rattle.std.specs.Prelude.{◌≡◌, ◌*◌, ◌≤◌, ◌<◌, ℕ, [], ◌∷◌, length};
+ghost use Rattle.std.specs.Prelude.{◌*◌, ◌≤◌, ◌<◌, ℕ, [], ◌∷◌, length};
 ghost use Rattle.std.specs.List.{range_with_len};
 ghost use Rattle.cu_num.specs.Dtype.{size_of};
 ghost use Rattle.cu_reduce.specs.Kinds.{Accumulates};

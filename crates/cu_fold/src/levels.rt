@@ -3,7 +3,7 @@ ghost use Rattle.std.specs.Prelude.{◌≡◌, ◌+◌, ◌≤◌, ◌<◌, ◌+
 ghost use Rattle.cu_fold.specs.Levels.{levels_from, IsAlike};
 ghost use Rattle.cu_fold.specs.Reduced.{is_folded};
 
-use cu_pull::Axes;
+use cu_origin::Axes;
 use cu_shape::Dims;
 
 /// An axis, or neighbouring axes of one kind.

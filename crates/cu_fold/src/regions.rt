@@ -3,7 +3,7 @@ ghost use Rattle.cu_num.specs.Dtype.{size_of};
 ghost use Rattle.cu_num.specs.Element.{element_at};
 ghost use Rattle.cu_num.specs.declared.layout.Endian.TheVariants.{Little};
 ghost use Rattle.cu_shape.specs.Index.{product, place_of, IsInside};
-ghost use Rattle.cu_pull.specs.Pull.{has_axis};
+ghost use Rattle.cu_origin.specs.Pull.{has_axis};
 ghost use Rattle.cu_reduce.specs.Folds.{fold_of};
 ghost use Rattle.cu_reduce.specs.Groups.{groups_of, group_counts, group_indices};
 ghost use Rattle.cu_reduce.specs.Kinds.{Accumulates, HasEnough};
@@ -14,7 +14,7 @@ use crate::levels::{Reduced, levels_of};
 use crate::types::Fold;
 use crate::walks::take_in;
 use cu_num::{Dtype, FoldKind, size};
-use cu_pull::Axes;
+use cu_origin::Axes;
 use cu_shape::Dims;
 use cu_take::fill;
 

@@ -1,6 +1,6 @@
 ghost use Rattle.std.specs.Prelude.{◌≡◌};
 ghost use Rattle.std.specs.List.{list_all};
-ghost use Rattle.cu_form.specs.Form.{args_of, is_earlier, names_earlier, is_array, are_arrays, element_takes, takes_args, group_kind};
+ghost use Rattle.cu_form.specs.Form.{args_of, names_earlier, is_array, are_arrays, element_takes, takes_args, group_kind};
 
 use crate::args::Arg;
 use cu_name::IdText;

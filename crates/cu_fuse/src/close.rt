@@ -1,10 +1,9 @@
 //! The plan of the operations that are left: its arrays and operations are numbered anew.
-ghost use Rattle.std.specs.Prelude.{◌≡◌, ◌<◌, ◌≤◌, ◌^◌, All, IfOk, length, map, option_map};
+ghost use Rattle.std.specs.Prelude.{◌≡◌, ◌<◌, ◌^◌, All, IfOk, length, map};
 ghost use Rattle.cu_name.specs.Name.{IsArrayName};
 ghost use Rattle.cu_op.specs.Arrays.{array_at, maker_at};
 ghost use Rattle.cu_op.specs.Sound.{Sound};
 ghost use Rattle.cu_fuse.specs.Close.{closed, remains, remaining_array, remaining_arrays, remaining_numbers, renumbered_planned};
-ghost use Rattle.cu_op.specs.Operation.{renumbered};
 ghost use Rattle.cu_op.specs.Numbers.{number_in};
 
 use crate::merge::maker_of;

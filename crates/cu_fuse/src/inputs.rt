@@ -1,6 +1,5 @@
 //! The inputs of a map with the inputs of a maker in place of one.
 ghost use Rattle.std.specs.Prelude.{◌≡◌, ◌<◌, ◌≤◌, ◌+◌, ◌++◌, IfSome, None, length};
-ghost use Rattle.cu_op.specs.Numbers.{number_in};
 ghost use Rattle.cu_fuse.specs.Fused.{stands_in, stands_once};
 ghost use Rattle.cu_fuse.specs.Splice.{put_in};
 

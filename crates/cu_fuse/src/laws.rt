@@ -1,6 +1,6 @@
 //! Laws of merged plans: calls that do nothing and whose clauses are the laws.
 
-ghost use Rattle.std.specs.Prelude.{All, Contains, ◌≡◌, ◌≢◌, ◌<◌, ◌≤◌, ◌+◌, ◌∷◌, ◌++◌, [], ℕ, ℤ, List, Option, Some, length, ◌⊎◌, None, ◌^◌, ◌↔◌, true};
+ghost use Rattle.std.specs.Prelude.{All, Contains, ◌≡◌, ◌≢◌, ◌<◌, ◌≤◌, ◌+◌, ◌++◌, [], ℕ, ℤ, List, Option, Some, length, ◌⊎◌, None, ◌^◌, ◌↔◌, true};
 ghost use Rattle.std.specs.List.{slice_get};
 ghost use Rattle.cu_op.specs.Operation.{renumbered, reads_of, writes_of, Fits};
 ghost use Rattle.cu_op.specs.Arrays.{HasLayoutOf, grid_at, array_at, maker_at};

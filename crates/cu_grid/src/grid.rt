@@ -1,4 +1,4 @@
-ghost use Rattle.std.specs.Prelude.{◌≡◌, ◌<◌, ◌≤◌, ◌^◌, ◌*◌, ◌↔◌, IsOk, IfOk, IfErr, Some, None, All, Contains, List, ℕ, map, length};
+ghost use Rattle.std.specs.Prelude.{◌≡◌, ◌<◌, ◌≤◌, ◌^◌, ◌↔◌, IsOk, IfOk, IfErr, Some, None, All, Contains, List, ℕ, map, length};
 ghost use Rattle.std.specs.List.Sorted.{IsStrictlyIncreasing};
 ghost use Rattle.cu_shape.specs.Index.{product, place_of};
 ghost use Rattle.cu_grid.specs.Counts.{counts_of, chunk_lo, chunk_hi, at_least_one, IsRegion};

@@ -1,6 +1,6 @@
 //! Chunks by their numbers, and elements by their places in a chunk.
 ghost use Rattle.std.specs.Prelude.{◌≡◌, ◌+◌, ◌*◌, ◌<◌, ◌^◌, ℕ, length, slice_index};
-ghost use Rattle.cu_shape.specs.Index.{product, sums, products, IsInside};
+ghost use Rattle.cu_shape.specs.Index.{product, sums, products};
 ghost use Rattle.cu_grid.specs.Counts.{counts_of};
 ghost use Rattle.cu_grid.specs.Grid.{IsGrid, IsCoordinate, coordinate_of, index_at_place};
 

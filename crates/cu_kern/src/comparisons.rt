@@ -1,7 +1,5 @@
 //! Comparisons from bytes to bytes, one call each, so that the loops of each are built apart.
-ghost use Rattle.std.specs.Prelude.{◌≡◌, length};
-ghost use Rattle.cu_num.specs.Scalar.{result_type2};
-ghost use Rattle.cu_num.specs.declared.types.Dtype.TheVariants.{Bool};
+ghost use Rattle.std.specs.Prelude.{length};
 ghost use Rattle.cu_kern.specs.Strips.{strip, HasArguments, HasResults};
 
 use crate::calls::Call;

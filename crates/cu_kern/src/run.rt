@@ -1,5 +1,5 @@
 //! Kernels over whole regions.
-ghost use Rattle.std.specs.Prelude.{◌≡◌, ◌+◌, ◌*◌, ◌-◌, ◌^◌, ◌≤◌, ◌<◌, ℕ, List, [], Some, All, length};
+ghost use Rattle.std.specs.Prelude.{◌≡◌, ◌*◌, ◌<◌, ℕ, List, [], Some, All, length};
 ghost use Rattle.cu_num.specs.Dtype.{size_of};
 ghost use Rattle.cu_num.specs.Element.{element_at, element_bytes, bytes_at};
 ghost use Rattle.cu_num.specs.declared.layout.Endian.TheVariants.{Little};

@@ -1,5 +1,5 @@
 //! One call a function from bytes to bytes, so that the loops of each are built apart.
-ghost use Rattle.std.specs.Prelude.{◌≡◌, ◌≢◌, ◌≤◌, length};
+ghost use Rattle.std.specs.Prelude.{length};
 ghost use Rattle.cu_kern.specs.Strips.{strip, IsCall, HasArguments, HasResults};
 
 use crate::calls::Call;

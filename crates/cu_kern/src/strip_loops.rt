@@ -1,6 +1,6 @@
 //! Loops from bytes to bytes, one for each call and steps of its arguments: all are given as literals, and the loops are built for
 //! them.
-ghost use Rattle.std.specs.Prelude.{◌≤◌, ◌≡◌, ◌≢◌, ◌+◌, ◌<◌, ℕ, length};
+ghost use Rattle.std.specs.Prelude.{◌≤◌, ◌≡◌, length};
 ghost use Rattle.cu_num.specs.Scalar.{result_type2};
 ghost use Rattle.cu_num.specs.declared.types.Dtype.TheVariants.{Bool};
 ghost use Rattle.cu_kern.specs.Strips.{strip, IsCall, HasArguments, HasResults};

@@ -1,7 +1,6 @@
 //! Sums and products of words.
-ghost use Rattle.std.specs.Prelude.{◌≡◌, ◌%◌, ◌^◌, length};
+ghost use Rattle.std.specs.Prelude.{◌≡◌, ◌%◌, ◌^◌};
 ghost use Rattle.std.specs.List.{sum};
-ghost use Rattle.std.specs.Simd.Lanes.{zip2};
 ghost use Rattle.cu_lane.specs.Folds.{product_of_words};
 
 use crate::compared::WIDE;

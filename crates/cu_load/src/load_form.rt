@@ -1,5 +1,5 @@
 //! The load form: the JSON text by which one array is given.
-ghost use Rattle.std.specs.Prelude.{◌≡◌, ◌≤◌, ◌<◌, ◌^◌, ◌==◌, [], codes, Ok, Err, Some, None, IfOk, IfErr, IfSome, option_map, option_and_then, if◌then◌else◌, is_none, is_some};
+ghost use Rattle.std.specs.Prelude.{◌≡◌, ◌≤◌, ◌<◌, ◌^◌, ◌==◌, [], codes, Ok, Err, Some, None, IfOk, IfErr, IfSome, option_map, option_and_then, if◌then◌else◌, is_none};
 ghost use Rattle.std.specs.Result.{result_map_both};
 ghost use Rattle.serde_json.specs.Find.{get};
 ghost use Rattle.serde_json.specs.Read.{read};

@@ -12,10 +12,10 @@ use Rattle.cu_form.specs.declared.form.Form.{Form}
 use Rattle.cu_node.specs.Axes.{axis_of}
 use Rattle.cu_node.specs.Info.{IsInfo, info_at}
 use Rattle.cu_node.specs.declared.info.NodeInfo.{NodeInfo}
-use Rattle.cu_meaning.specs.Along.{line_axis}
-use Rattle.cu_meaning.specs.Argument.{NodeElements, shape_of_node}
-use Rattle.cu_meaning.specs.Index.{axis_in}
-use Rattle.cu_meaning.specs.Rule.{rule_of}
+use Rattle.cu_semantics.specs.Along.{line_axis}
+use Rattle.cu_semantics.specs.Argument.{NodeElements, shape_of_node}
+use Rattle.cu_semantics.specs.Index.{axis_in}
+use Rattle.cu_semantics.specs.Rule.{rule_of}
 use Rattle.cu_reduce.specs.Labels.{Labelled, group_fold, grouped_at, grouped_to, marked, picked, with_label}
 use Rattle.cu_reduce.specs.Prefix.{Line, cumulative, line_through, running_sum, sum_below}
 use Rattle.cu_reduce.proofs.Given.{labelled_by, none_before, picked_given}

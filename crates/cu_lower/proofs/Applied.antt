@@ -18,8 +18,8 @@ use Rattle.cu_form.specs.declared.args.Arg.{Arg}
 use Rattle.cu_node.specs.declared.element_op.ElementOp.{ElementOp}
 use Rattle.cu_node.specs.Info.{info_at}
 use Rattle.cu_node.specs.declared.info.NodeInfo.{NodeInfo}
-use Rattle.cu_meaning.specs.Argument.{NodeElements, shape_of_node, argument_at}
-use Rattle.cu_meaning.specs.Rule.{function_value}
+use Rattle.cu_semantics.specs.Argument.{NodeElements, shape_of_node, argument_at}
+use Rattle.cu_semantics.specs.Rule.{function_value}
 use Rattle.cu_expr.specs.Kernel.{loads_from, function_of, kernel_of}
 use Rattle.cu_typing.specs.Types.{accepts_arguments, result_type}
 use Rattle.cu_expr.specs.Typing.{argument_of}

@@ -15,13 +15,13 @@ use Rattle.cu_form.specs.Form.{is_array}
 use Rattle.cu_form.specs.declared.args.Arg.{Arg}
 use Rattle.cu_node.specs.Axes.{axis_of, marked_after}
 use Rattle.cu_node.specs.declared.info.NodeInfo.{NodeInfo}
-use Rattle.cu_meaning.specs.Argument.{NodeElements, shape_of_node, element_from, source_at}
-use Rattle.cu_meaning.specs.Index.{is_named, natural}
-use Rattle.cu_meaning.specs.View as meant
-use Rattle.cu_pull.specs.Pull as pulled
-use Rattle.cu_pull.specs.Pull.{for_each_axis, has_axis, flipped_on, rolled_on, permuted_on, concat_from}
-use Rattle.cu_pull.specs.declared.provenance.Provenance.{Provenance}
-use Rattle.cu_pull.specs.declared.provenance.Provenance.TheVariants.{From, Const}
+use Rattle.cu_semantics.specs.Argument.{NodeElements, shape_of_node, element_from, source_at}
+use Rattle.cu_semantics.specs.Index.{is_named, natural}
+use Rattle.cu_semantics.specs.View as meant
+use Rattle.cu_origin.specs.Pull as pulled
+use Rattle.cu_origin.specs.Pull.{for_each_axis, has_axis, flipped_on, rolled_on, permuted_on, concat_from}
+use Rattle.cu_origin.specs.declared.provenance.Provenance.{Provenance}
+use Rattle.cu_origin.specs.declared.provenance.Provenance.TheVariants.{From, Const}
 use Rattle.cu_lower_view.specs.Axes.{named_axis, is_turned, byte_of, axes_that, shift_along, shifts_along}
 use Rattle.cu_lower_view.specs.Sources.{sources_of, shapes_of}
 use Rattle.cu_lower.proofs.EntryIndices.{natural_same}

@@ -29,8 +29,8 @@ use Rattle.cu_copy.specs.Copies.{rechunked}
 use Rattle.cu_typing.specs.Matmul.{typed_matmul}
 use Rattle.cu_need.specs.Operands.{right_wanted}
 use Rattle.cu_expr.specs.declared.inputs.InputInfo.{InputInfo}
-use Rattle.cu_meaning.specs.Argument.{NodeElements}
-use Rattle.cu_meaning.specs.Meaning.{meaning_of}
+use Rattle.cu_semantics.specs.Argument.{NodeElements}
+use Rattle.cu_semantics.specs.Meaning.{meaning_of}
 use Rattle.cu_lower.specs.Parts.{made_layout}
 use Rattle.cu_lower.specs.Plan.{plan_of}
 use Rattle.cu_lower.specs.Premises.{IsComputedNode, IsLowerable, NeedsAsMuch}

@@ -11,8 +11,8 @@ use Rattle.cu_form.specs.declared.args.Arg.{Arg}
 use Rattle.cu_form.specs.declared.form.Form.{Form}
 use Rattle.cu_node.specs.Info.{IsInfo, info_at}
 use Rattle.cu_node.specs.declared.info.NodeInfo.{NodeInfo}
-use Rattle.cu_meaning.specs.Argument.{NodeElements, shape_of_node}
-use Rattle.cu_meaning.specs.Rule.{rule_of}
+use Rattle.cu_semantics.specs.Argument.{NodeElements, shape_of_node}
+use Rattle.cu_semantics.specs.Rule.{rule_of}
 use Rattle.cu_typing.specs.Along.{typed_groups}
 use Rattle.cu_need.specs.Along.{labels_wanted}
 use Rattle.cu_need.specs.Need.{IsTyped}

@@ -11,10 +11,10 @@ use Rattle.cu_shape.specs.Slice.{at_least_zero, from_end, first_of, index_taken}
 use Rattle.cu_shape.specs.declared.slice.Run.{Run}
 use Rattle.cu_shape.proofs.Places.{inside-length, index-place, length-index_at}
 use Rattle.cu_node.specs.declared.index_item.IndexItem.{IndexItem}
-use Rattle.cu_pull.specs.Pull.{counts_of_runs, taken_by, sliced as read_by_runs}
+use Rattle.cu_origin.specs.Pull.{counts_of_runs, taken_by, sliced as read_by_runs}
 use Rattle.cu_typing_view.specs.Entries.{takes_axis, step_of, count_taken, untaken, is_wrong, first_wrong, index_shape}
-use Rattle.cu_meaning.specs.Index.{natural}
-use Rattle.cu_meaning.specs.View.{uses_axis as takes_one, sliced_index, indexed_from, indexed}
+use Rattle.cu_semantics.specs.Index.{natural}
+use Rattle.cu_semantics.specs.View.{uses_axis as takes_one, sliced_index, indexed_from, indexed}
 use Rattle.cu_lower_view.specs.Runs.{whole_run, single_run, slice_run, index_runs}
 
 -- ---- shapes one behind the other

@@ -14,7 +14,7 @@ use Rattle.cu_op.specs.Elements.{Elements}
 use Rattle.cu_op.specs.Value.{plan_value}
 use Rattle.cu_form.specs.Expression.{IsNode, Expression}
 use Rattle.cu_form.specs.Form.{takes_args, names_earlier, in_ranges, HasShortIndex}
-use Rattle.cu_meaning.specs.Meaning.{meaning_of}
+use Rattle.cu_semantics.specs.Meaning.{meaning_of}
 use Rattle.cu_lower.specs.Premises.{IsLowerable}
 use Rattle.std.specs.Fmt.{digits}
 use Rattle.cu_num.specs.Promotion.{promotion}

@@ -34,10 +34,10 @@ use Rattle.cu_need.specs.Chunks.{aligned_bytes, arrays_in, chunk_bytes}
 use Rattle.cu_need.specs.Elementwise.{own_instructions}
 use Rattle.cu_need.specs.Need.{own_need}
 use Rattle.cu_need.specs.Operands.{in_aligned, operands_of}
-use Rattle.cu_pull.specs.Fits.{FitsPull}
-use Rattle.cu_pull.specs.Pull.{origin_of}
-use Rattle.cu_pull.specs.declared.pull.Pull.{Pull as View}
-use Rattle.cu_pull.specs.declared.pull.Pull.TheVariants as views
+use Rattle.cu_origin.specs.Fits.{FitsPull}
+use Rattle.cu_origin.specs.Pull.{origin_of}
+use Rattle.cu_origin.specs.declared.pull.Pull.{Pull as View}
+use Rattle.cu_origin.specs.declared.pull.Pull.TheVariants as views
 use Rattle.cu_op.specs.Kind.Pull.{Converts, PullFits, shapes_at}
 use Rattle.cu_need.specs.View.{is_view, view_need}
 use Rattle.cu_lower_view.specs.Sources.{source_shapes}

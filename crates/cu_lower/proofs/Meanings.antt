@@ -22,10 +22,10 @@ use Rattle.cu_form.specs.declared.expr.Node.{Node}
 use Rattle.cu_form.specs.declared.form.Form.{Form}
 use Rattle.cu_node.specs.declared.element_op.ElementOp.{ElementOp}
 use Rattle.cu_node.specs.declared.info.NodeInfo.{NodeInfo}
-use Rattle.cu_meaning.specs.Argument.{NodeElements, shape_of_node}
-use Rattle.cu_meaning.specs.Meaning.{meaning_of}
-use Rattle.cu_meaning.specs.Rule.{rule_of, node_element}
-use Rattle.cu_meaning.proofs.Equation.{equation}
+use Rattle.cu_semantics.specs.Argument.{NodeElements, shape_of_node}
+use Rattle.cu_semantics.specs.Meaning.{meaning_of}
+use Rattle.cu_semantics.specs.Rule.{rule_of, node_element}
+use Rattle.cu_semantics.proofs.Equation.{equation}
 use Rattle.cu_expr.specs.declared.inputs.InputInfo.{InputInfo}
 use Rattle.cu_need.specs.Live.{is_live, IsClosed}
 use Rattle.cu_need.specs.View.{is_view}

@@ -3,8 +3,8 @@ use Rattle.std.proofs.Common.{◌≡◌, ◌≢◌, ℕ, ◌<◌, ◌≤◌, ◌
 use Rattle.std.specs.Prelude.{slice_index, unwrap_or}
 use Rattle.std.proofs.lemmas.Bool.{cases_Bool}
 use Rattle.std.proofs.lemmas.List.Elements.{All-nil, All-cons}
-use Rattle.cu_pull.specs.declared.pull.Pull.{Pull as View}
-use Rattle.cu_pull.specs.declared.pull.Pull.TheVariants as views
+use Rattle.cu_origin.specs.declared.pull.Pull.{Pull as View}
+use Rattle.cu_origin.specs.declared.pull.Pull.TheVariants as views
 use Rattle.cu_op.specs.Arrays.{array_at}
 use Rattle.cu_op.specs.Operation.{reads_of, IsReadable, IsMadeBy, IsBefore}
 use Rattle.cu_op.specs.PlanView.{operation_at}

@@ -6,10 +6,10 @@ use Rattle.cu_form.specs.declared.args.Arg.{Arg}
 use Rattle.cu_form.specs.declared.form.Form.{Form}
 use Rattle.cu_node.specs.Info.{IsInfo, info_at}
 use Rattle.cu_node.specs.declared.info.NodeInfo.{NodeInfo}
-use Rattle.cu_meaning.specs.Argument.{NodeElements, shape_of_node}
-use Rattle.cu_meaning.specs.Rule.{place_axes, rule_of}
+use Rattle.cu_semantics.specs.Argument.{NodeElements, shape_of_node}
+use Rattle.cu_semantics.specs.Rule.{place_axes, rule_of}
 use Rattle.cu_op.specs.Places.{counted_at, pair_part}
-use Rattle.cu_pull.specs.Pull.{has_axis}
+use Rattle.cu_origin.specs.Pull.{has_axis}
 use Rattle.cu_reduce.specs.Folds.{all_some}
 use Rattle.cu_reduce.specs.Places.{Found, is_sought, counted_place, found_at, best_of, best_in, best_place}
 use Rattle.cu_tree.proofs.Bits.{sought}

@@ -16,7 +16,7 @@ use Rattle.cu_reduce.specs.Folds.{all_some, reduced_to, exact_sum}
 use Rattle.cu_reduce.specs.Products.{batch_of, outer_axes, batch_axes, left_index, right_index}
 use Rattle.cu_op.specs.Matrix.{rows_of, columns_of, left_inner, right_inner, batch_grid, product_at}
 use Rattle.cu_op.specs.Aligned.{IsAlignedAlong, IsAligned}
-use Rattle.cu_meaning.specs.Matmul.{matmul_at}
+use Rattle.cu_semantics.specs.Matmul.{matmul_at}
 use Rattle.cu_lower_reduce.specs.Products.{inner_products, IsProduct}
 use Rattle.cu_lower_reduce.specs.Steps.{grid_of}
 use Rattle.cu_lower_reduce.specs.declared.product.Product.{Product}

@@ -9,8 +9,8 @@ use Rattle.cu_form.specs.declared.args.Arg.{Arg}
 use Rattle.cu_form.specs.declared.form.Form.{Form}
 use Rattle.cu_node.specs.Info.{info_at}
 use Rattle.cu_node.specs.declared.info.NodeInfo.{NodeInfo}
-use Rattle.cu_meaning.specs.Argument.{NodeElements, shape_of_node}
-use Rattle.cu_meaning.specs.Rule.{rule_of}
+use Rattle.cu_semantics.specs.Argument.{NodeElements, shape_of_node}
+use Rattle.cu_semantics.specs.Rule.{rule_of}
 use Rattle.cu_op.specs.Matrix.{left_inner, product_at}
 use Rattle.cu_reduce.specs.Folds.{exact_sum, reduced_to}
 use Rattle.cu_reduce.specs.Products.{left_index, right_index}

@@ -11,8 +11,8 @@ use Rattle.cu_shape.proofs.Places.{index-place}
 use Rattle.cu_node.specs.Axes.{marked_after, all_marked}
 use Rattle.cu_op.proofs.Grouped.{squeezed_product}
 use Rattle.cu_lower_view.proofs.Marks.{first_named, axis_below}
-use Rattle.cu_meaning.specs.Index.{axis_in, is_named}
-use Rattle.cu_meaning.specs.Reduction.{kept_before, reduced_box, reduced_start}
+use Rattle.cu_semantics.specs.Index.{axis_in, is_named}
+use Rattle.cu_semantics.specs.Reduction.{kept_before, reduced_box, reduced_start}
 use Rattle.cu_reduce.specs.Groups.{Groups, groups_from, groups_of, group_counts, group_lo, group_hi, group_of, group_indices}
 use Rattle.cu_typing.specs.Reduction.{kept_sizes, marks_of}
 use Rattle.cu_lower.proofs.Marked.{AreMarked, marked_rest, unmarked_rest, marked_here, one_group, unkept, squeezed}

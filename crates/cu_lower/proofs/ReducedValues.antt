@@ -11,10 +11,10 @@ use Rattle.cu_form.specs.declared.args.Arg.{Arg}
 use Rattle.cu_form.specs.declared.form.Form.{Form}
 use Rattle.cu_node.specs.Info.{IsInfo, info_at}
 use Rattle.cu_node.specs.declared.info.NodeInfo.{NodeInfo}
-use Rattle.cu_meaning.specs.Argument.{NodeElements, shape_of_node}
-use Rattle.cu_meaning.specs.Reduction.{reduced_start, reduced_elements}
-use Rattle.cu_meaning.specs.Rule.{rule_of}
-use Rattle.cu_pull.specs.Pull.{has_axis}
+use Rattle.cu_semantics.specs.Argument.{NodeElements, shape_of_node}
+use Rattle.cu_semantics.specs.Reduction.{reduced_start, reduced_elements}
+use Rattle.cu_semantics.specs.Rule.{rule_of}
+use Rattle.cu_origin.specs.Pull.{has_axis}
 use Rattle.cu_reduce.specs.Folds.{fold_of, all_some, reduced_to}
 use Rattle.cu_typing.specs.Reduction.{fold_rule, marks_of, kept_sizes, typed_reduction}
 use Rattle.cu_typing.proofs.PassedTogether.{reduction_passed}

@@ -16,7 +16,7 @@ use Rattle.cu_node.specs.Info.{IsInfo}
 use Rattle.cu_node.specs.declared.info.NodeInfo.{NodeInfo}
 use Rattle.cu_op.specs.Places.{HasPlaceAxis}
 use Rattle.cu_op.specs.Partial.{partial_grid, IsSqueezed}
-use Rattle.cu_pull.specs.Pull.{has_axis}
+use Rattle.cu_origin.specs.Pull.{has_axis}
 use Rattle.cu_reduce.specs.Groups.{groups_of}
 use Rattle.cu_reduce.specs.Kinds.{Accumulates, HasEnough}
 use Rattle.cu_tree.specs.Marks.{marked_axes}

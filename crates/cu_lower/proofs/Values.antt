@@ -15,10 +15,10 @@ use Rattle.cu_op.specs.Kind.Map.{loaded}
 use Rattle.cu_op.specs.Kind.Pull.{pulled}
 use Rattle.cu_op.specs.declared.kernel.Instr.{Instr}
 use Rattle.cu_op.specs.declared.layout.ArrayInfo.{ArrayInfo}
-use Rattle.cu_pull.specs.Pull.{origin_of, IsInSources}
-use Rattle.cu_pull.specs.declared.provenance.Provenance.{Provenance}
-use Rattle.cu_pull.specs.declared.provenance.Provenance.TheVariants.{From, Const}
-use Rattle.cu_pull.proofs.OriginsInside.{inside_sources}
+use Rattle.cu_origin.specs.Pull.{origin_of, IsInSources}
+use Rattle.cu_origin.specs.declared.provenance.Provenance.{Provenance}
+use Rattle.cu_origin.specs.declared.provenance.Provenance.TheVariants.{From, Const}
+use Rattle.cu_origin.proofs.OriginsInside.{inside_sources}
 use Rattle.cu_lower_view.specs.Sources.{sources_of, shapes_of, source_shapes}
 use Rattle.cu_lower_view.specs.Typed.{IsTypedView, IsPull}
 use Rattle.cu_form.specs.Form.{args_of, is_array}
@@ -27,8 +27,8 @@ use Rattle.cu_form.specs.declared.form.Form.{Form}
 use Rattle.cu_node.specs.Info.{info_at}
 use Rattle.cu_node.specs.declared.element_op.ElementOp.{ElementOp}
 use Rattle.cu_node.specs.declared.info.NodeInfo.{NodeInfo}
-use Rattle.cu_meaning.specs.Argument.{NodeElements, shape_of_node, argument_at}
-use Rattle.cu_meaning.specs.Rule.{function_value, rule_of}
+use Rattle.cu_semantics.specs.Argument.{NodeElements, shape_of_node, argument_at}
+use Rattle.cu_semantics.specs.Rule.{function_value, rule_of}
 use Rattle.cu_typing.specs.Accepted.{IsElementwise}
 use Rattle.cu_typing.specs.Types.{result_type}
 use Rattle.cu_expr.specs.Kernel.{kernel_of}

@@ -6,7 +6,7 @@ use Rattle.std.proofs.lemmas.Int.{ints}
 use Rattle.std.proofs.lemmas.List.Elements.{All-nil, All-cons}
 use Rattle.cu_num.specs.Dtype.{InRange}
 use Rattle.cu_num.specs.declared.types.Dtype.TheVariants.{Int32, Int64}
-use Rattle.cu_pull.specs.declared.pull.Pull.TheVariants.{Slice, Concat, Arange}
+use Rattle.cu_origin.specs.declared.pull.Pull.TheVariants.{Slice, Concat, Arange}
 use Rattle.cu_op.specs.Layout.{IsLayout}
 use Rattle.cu_op.specs.Elements.{Elements}
 use Rattle.cu_op.specs.Value.{plan_value}
@@ -21,8 +21,8 @@ use Rattle.cu_node.specs.declared.index_item.IndexItem.{IndexItem}
 use Rattle.cu_node.specs.declared.info.NodeInfo.{NodeInfo}
 use Rattle.cu_typing_view.specs.Entries.{count_taken}
 use Rattle.cu_expr.specs.declared.inputs.InputInfo.{InputInfo}
-use Rattle.cu_meaning.specs.Argument.{NodeElements}
-use Rattle.cu_meaning.specs.Meaning.{meaning_of}
+use Rattle.cu_semantics.specs.Argument.{NodeElements}
+use Rattle.cu_semantics.specs.Meaning.{meaning_of}
 use Rattle.cu_lower_view.specs.Runs.{slice_run}
 use Rattle.cu_lower.specs.Parts.{made_layout}
 use Rattle.cu_lower.specs.Plan.{plan_of}

@@ -24,13 +24,13 @@ use Rattle.cu_node.specs.declared.new_shape.NewShape.{NewShape}
 use Rattle.cu_node.proofs.KeptLimits.{given}
 use Rattle.cu_typing_view.specs.Entries.{untaken, first_wrong, index_shape, index_chunk, unless_wrong}
 use Rattle.cu_typing_view.specs.Rearranged.{is_permutation, permuted_sizes}
-use Rattle.cu_meaning.specs.Argument.{NodeElements}
-use Rattle.cu_meaning.specs.Rule.{rule_of}
-use Rattle.cu_pull.specs.Fits.{FitsPull}
-use Rattle.cu_pull.specs.Pull.{origin_of, diagonal_of, is_in_triangle}
-use Rattle.cu_pull.specs.declared.provenance.Provenance.TheVariants.{From, Const}
-use Rattle.cu_pull.specs.declared.pull.Pull.{Pull}
-use Rattle.cu_pull.specs.declared.pull.Pull.TheVariants as pulls
+use Rattle.cu_semantics.specs.Argument.{NodeElements}
+use Rattle.cu_semantics.specs.Rule.{rule_of}
+use Rattle.cu_origin.specs.Fits.{FitsPull}
+use Rattle.cu_origin.specs.Pull.{origin_of, diagonal_of, is_in_triangle}
+use Rattle.cu_origin.specs.declared.provenance.Provenance.TheVariants.{From, Const}
+use Rattle.cu_origin.specs.declared.pull.Pull.{Pull}
+use Rattle.cu_origin.specs.declared.pull.Pull.TheVariants as pulls
 use Rattle.cu_lower_view.specs.Axes.{named_axis, is_turned, axes_that, shifts_along}
 use Rattle.cu_lower_view.specs.Runs.{whole_run, index_runs, axes_taken}
 use Rattle.cu_lower_view.specs.Sources.{sources_of, shapes_of, source_shapes}

@@ -32,8 +32,8 @@ use Rattle.cu_need.specs.Live.{is_live}
 use Rattle.cu_need.specs.Need.{own_need}
 use Rattle.cu_need.specs.Operands.{left_wanted, operands_of, right_wanted}
 use Rattle.cu_need.specs.Reduction.{array_of, axes_reduced, sought_axis}
-use Rattle.cu_pull.specs.declared.pull.Pull.{Pull as View}
-use Rattle.cu_pull.specs.declared.pull.Pull.TheVariants.{Reshape}
+use Rattle.cu_origin.specs.declared.pull.Pull.{Pull as View}
+use Rattle.cu_origin.specs.declared.pull.Pull.TheVariants.{Reshape}
 use Rattle.cu_lower_view.specs.View.{pull_of}
 use Rattle.cu_copy.specs.Copies.{in_chunks, max_mem, rechunked, IsRechunk}
 use Rattle.cu_copy.specs.declared.copies.Rechunk.{Rechunk}

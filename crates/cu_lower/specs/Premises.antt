@@ -13,14 +13,14 @@ use Rattle.cu_op.specs.Value.{HasTypes}
 use Rattle.cu_op.specs.declared.layout.ArrayInfo.{ArrayInfo}
 use Rattle.cu_op.specs.declared.operation.Planned.{Planned}
 use Rattle.cu_name.specs.Keys.{record_key_of, made_prefix_of}
-use Rattle.cu_state.specs.Pieces.{PlanRun}
+use Rattle.cu_run_law.specs.Pieces.{PlanRun}
 use Rattle.cu_zarr.specs.Key.{metadata_key_of}
 use Rattle.cu_form.specs.Expression.{Expression, IsExpression}
 use Rattle.cu_form.specs.declared.expr.Node.{Node}
 use Rattle.cu_form.specs.declared.form.Form.{Form}
 use Rattle.cu_node.specs.Info.{IsInfo, info_at}
 use Rattle.cu_node.specs.declared.info.NodeInfo.{NodeInfo}
-use Rattle.cu_meaning.specs.Argument.{NodeElements, shape_of_node}
+use Rattle.cu_semantics.specs.Argument.{NodeElements, shape_of_node}
 use Rattle.cu_expr.specs.Typing.{typed}
 use Rattle.cu_expr.specs.declared.inputs.InputInfo.{InputInfo}
 use Rattle.cu_need.specs.Counts.{plan_counts, over_limit}

@@ -1,11 +1,10 @@
 //! The operation of an elementwise node and of a view, and the arrays that operations make.
 
-ghost use Rattle.std.specs.Prelude.{◌≡◌, ◌<◌, ◌≤◌, ◌^◌, ℕ, List, [], ◌∷◌, ◌++◌, IsOk, map, true, length};
+ghost use Rattle.std.specs.Prelude.{◌≡◌, ◌≤◌, List, [], ◌∷◌, ◌++◌, IsOk, map, true, length};
 ghost use Rattle.std.specs.List.{list_all};
 ghost use Rattle.cu_form.specs.Expression.{Expression};
 ghost use Rattle.cu_form.specs.Form.{args_of, is_earlier, names_earlier, element_takes, HasShortIndex};
 ghost use Rattle.cu_grid.specs.Grid.{IsGrid};
-ghost use Rattle.cu_node.specs.Info.{info_at};
 ghost use Rattle.cu_lower_reduce.specs.Steps.{grid_of};
 ghost use Rattle.cu_node.specs.declared.info.NodeInfo.{NodeInfo as Known};
 ghost use Rattle.cu_expr.specs.Kernel.{first_is, loads_from, function_of};

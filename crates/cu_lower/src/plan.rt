@@ -3,12 +3,11 @@
 ghost use Rattle.std.specs.Prelude.{◌≡◌, ◌≤◌, ◌<◌, ◌+◌, ◌^◌, ◌++◌, [], ℕ, List, true, false, All, IfOk, IfSome, OnOk, bytes_eq, length, slice_index};
 ghost use Rattle.std.specs.List.{position_or_len};
 ghost use Rattle.cu_grid.specs.Grid.{IsGrid};
-ghost use Rattle.cu_name.specs.Name.{is_name};
 ghost use Rattle.cu_node.specs.Info.{IsInfo, info_at};
 ghost use Rattle.cu_op.specs.Sound.{Sound};
 ghost use Rattle.cu_need.specs.Live.{is_live};
 ghost use Rattle.cu_lower.specs.Inputs.{input_names};
-ghost use Rattle.cu_lower.specs.Plan.{first_grown, lowered, as_plan, plan_of};
+ghost use Rattle.cu_lower.specs.Plan.{lowered, plan_of};
 ghost use Rattle.cu_lower_reduce.specs.Steps.{grid_of, made_infos, all_made};
 ghost use Rattle.cu_lower.specs.Parts.{AreOptions, IsGrowing, IsGrown, CanGrow, HasSteps, Make, is_given, pair_arrays, source_places, steps_of, with_step, with_steps, with_place, with_made, with_next_node, with_live};
 ghost use Rattle.cu_lower.specs.Premises.{IsLowerable};

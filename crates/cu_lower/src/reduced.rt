@@ -1,6 +1,6 @@
 //! The steps of reductions, searches for places, products, prefix sums and groups by labels.
 
-ghost use Rattle.std.specs.Prelude.{◌≡◌, ◌<◌, ◌^◌, ◌++◌, IfOk, OnOk, length, slice_index};
+ghost use Rattle.std.specs.Prelude.{◌≡◌, ◌<◌, ◌^◌, ◌++◌, IfOk, OnOk, slice_index};
 ghost use Rattle.cu_lower_reduce.specs.Cumulative.{cumulative_steps, IsCumulative};
 ghost use Rattle.cu_lower_reduce.specs.Grouped.{grouped_steps, IsGrouped};
 ghost use Rattle.cu_lower_reduce.specs.Partials.{IsSetting};

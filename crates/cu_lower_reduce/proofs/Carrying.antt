@@ -15,8 +15,8 @@ use Rattle.cu_reduce.proofs.Covered.{groups_cover, composed_cover, whole_part}
 use Rattle.cu_reduce.proofs.Grouped.{length-group_counts, length-group_lo, length-group_hi, length-groups_from, groups_rise, group_part, group_within, group_enough}
 use Rattle.cu_reduce.proofs.Regions.{region_all}
 use Rattle.cu_reduce.proofs.Rounds.{risen_to}
-use Rattle.cu_pull.specs.Pull.{has_axis}
-use Rattle.cu_pull.specs.declared.axes.Axes.{Axes}
+use Rattle.cu_origin.specs.Pull.{has_axis}
+use Rattle.cu_origin.specs.declared.axes.Axes.{Axes}
 use Rattle.cu_lower_reduce.specs.Reductions.{whole_groups}
 use Rattle.cu_lower_reduce.proofs.Standing.{one_group}
 

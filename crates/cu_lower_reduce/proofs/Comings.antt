@@ -4,7 +4,7 @@ use Rattle.std.specs.Int.{div_ceil}
 use Rattle.cu_num.specs.declared.folds.FoldKind.{FoldKind}
 use Rattle.cu_shape.specs.Counts.{counts_of}
 use Rattle.cu_shape.proofs.Axes.{length-axis_by_axis}
-use Rattle.cu_pull.specs.declared.axes.Axes.{Axes}
+use Rattle.cu_origin.specs.declared.axes.Axes.{Axes}
 use Rattle.cu_node.specs.Info.{IsInfo}
 use Rattle.cu_node.specs.declared.info.NodeInfo.{NodeInfo}
 use Rattle.cu_tree.specs.Needs.{fold_need, merge_need}

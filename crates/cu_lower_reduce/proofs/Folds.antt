@@ -6,8 +6,8 @@ use Rattle.cu_num.specs.declared.folds.FoldKind.TheVariants.{Sum, Prod, Min, Max
 use Rattle.cu_grid.specs.Grid.{RegularGrid}
 use Rattle.cu_reduce.specs.Groups.{Groups, groups_from, HasElements}
 use Rattle.cu_reduce.specs.Kinds.{Accumulates, HasEnough}
-use Rattle.cu_pull.specs.Pull.{has_axis}
-use Rattle.cu_pull.specs.declared.axes.Axes.{Axes}
+use Rattle.cu_origin.specs.Pull.{has_axis}
+use Rattle.cu_origin.specs.declared.axes.Axes.{Axes}
 use Rattle.cu_op.specs.Arrays.{grid_at, type_at}
 use Rattle.cu_op.specs.Partial.{partial_grid, chunk_groups, IsSqueezed}
 use Rattle.cu_op.specs.declared.layout.ArrayInfo.{ArrayInfo}

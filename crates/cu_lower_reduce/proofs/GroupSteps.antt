@@ -11,7 +11,7 @@ use Rattle.cu_num.specs.declared.types.Dtype.{Dtype}
 use Rattle.cu_grid.specs.Grid.{RegularGrid}
 use Rattle.cu_shape.proofs.Products.{size_within}
 use Rattle.cu_reduce.specs.Kinds.{Accumulates}
-use Rattle.cu_pull.specs.declared.axes.Axes.{Axes}
+use Rattle.cu_origin.specs.declared.axes.Axes.{Axes}
 use Rattle.cu_op.specs.Along.{size_on, chunk_on}
 use Rattle.cu_op.specs.Arrays.{type_at}
 use Rattle.cu_op.specs.Grouping.{label_chunks}

@@ -21,7 +21,7 @@ use Rattle.cu_reduce.specs.Labels.{with_label, marked, grouped_to, chunk_places}
 use Rattle.cu_reduce.proofs.Ranges.{map-map}
 use Rattle.cu_along.proofs.Members.{counted, TakesElement, grouped_reduced}
 use Rattle.cu_along.proofs.Merging.{enough_of, element_there, counted_there}
-use Rattle.cu_pull.specs.Pull.{has_axis}
+use Rattle.cu_origin.specs.Pull.{has_axis}
 use Rattle.cu_op.specs.Elements.{Elements}
 use Rattle.cu_op.specs.Grouping.{source_index, part_places}
 use Rattle.cu_op.specs.Value.{rule}

@@ -12,8 +12,8 @@ use Rattle.cu_reduce.specs.Folds.{reduced_to}
 use Rattle.cu_reduce.specs.Groups.{group_counts, group_indices}
 use Rattle.cu_reduce.specs.Kinds.{Accumulates}
 use Rattle.cu_reduce.proofs.Grouped.{length-groups_from}
-use Rattle.cu_pull.specs.Pull.{has_axis}
-use Rattle.cu_pull.specs.declared.axes.Axes.{Axes}
+use Rattle.cu_origin.specs.Pull.{has_axis}
+use Rattle.cu_origin.specs.declared.axes.Axes.{Axes}
 use Rattle.cu_op.specs.Partial.{partial_grid, chunk_groups, merge_groups, IsSqueezed}
 use Rattle.cu_op.specs.Elements.{Elements}
 use Rattle.cu_op.specs.Value.{rule}

@@ -12,8 +12,8 @@ use Rattle.cu_grid.specs.Grid.{RegularGrid}
 use Rattle.cu_reduce.specs.Groups.{groups_from, groups_of, group_counts, group_lo, group_hi, group_indices}
 use Rattle.cu_reduce.specs.Regions.{region_indices}
 use Rattle.cu_reduce.proofs.Regions.{region_front, region_one}
-use Rattle.cu_pull.specs.Pull.{has_axis}
-use Rattle.cu_pull.specs.declared.axes.Axes.{Axes}
+use Rattle.cu_origin.specs.Pull.{has_axis}
+use Rattle.cu_origin.specs.declared.axes.Axes.{Axes}
 use Rattle.cu_op.specs.Partial.{partial_grid, IsSqueezed}
 use Rattle.cu_node.specs.Info.{info_of}
 use Rattle.cu_node.specs.declared.info.NodeInfo.{NodeInfo}

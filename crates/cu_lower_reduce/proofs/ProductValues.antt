@@ -13,7 +13,7 @@ use Rattle.cu_reduce.specs.Folds.{reduced_to}
 use Rattle.cu_reduce.specs.Groups.{groups_of, group_counts, group_indices}
 use Rattle.cu_reduce.specs.Products.{outer_axes, left_index, right_index}
 use Rattle.cu_reduce.proofs.Ranges.{map-map}
-use Rattle.cu_pull.specs.Pull.{has_axis}
+use Rattle.cu_origin.specs.Pull.{has_axis}
 use Rattle.cu_op.specs.Matrix.{product_rank, rows_of, columns_of, left_inner, inner_places, product_at}
 use Rattle.cu_op.specs.Elements.{Elements}
 use Rattle.cu_op.specs.Value.{rule}

@@ -8,8 +8,8 @@ use Rattle.cu_shape.specs.Index.{product}
 use Rattle.cu_grid.specs.Grid.{RegularGrid}
 use Rattle.cu_reduce.specs.Groups.{Groups, groups_from, groups_of, HasElements}
 use Rattle.cu_reduce.specs.Places.{is_sought}
-use Rattle.cu_pull.specs.Pull.{has_axis}
-use Rattle.cu_pull.specs.declared.axes.Axes.{Axes}
+use Rattle.cu_origin.specs.Pull.{has_axis}
+use Rattle.cu_origin.specs.declared.axes.Axes.{Axes}
 use Rattle.cu_op.specs.Arrays.{grid_at}
 use Rattle.cu_op.specs.Operation.{Fits}
 use Rattle.cu_op.specs.Places.{StoresValues, HasPlaceAxis, value_room}

@@ -2,8 +2,8 @@
 use Rattle.std.proofs.Common.{◌≡◌, ℕ, ◌+◌, Bool, true, false, List, [], ◌∷◌, ◌++◌, length, refl, arith, inl, inr}
 use Rattle.cu_shape.specs.Index.{product}
 use Rattle.cu_reduce.specs.Groups.{groups_from}
-use Rattle.cu_pull.specs.Pull.{has_axis}
-use Rattle.cu_pull.specs.declared.axes.Axes.{Axes}
+use Rattle.cu_origin.specs.Pull.{has_axis}
+use Rattle.cu_origin.specs.declared.axes.Axes.{Axes}
 use Rattle.cu_op.specs.Partial.{IsSqueezedAlong}
 use Rattle.cu_op.specs.Partial.{partial_chunk as chunk_of_groups}
 use Rattle.cu_tree.specs.Partials.{partial_chunk_from}

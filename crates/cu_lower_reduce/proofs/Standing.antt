@@ -8,8 +8,8 @@ use Rattle.cu_num.specs.declared.types.Dtype.{Dtype}
 use Rattle.cu_shape.proofs.Rounded.{before_end}
 use Rattle.cu_grid.specs.Grid.{RegularGrid}
 use Rattle.cu_reduce.specs.Groups.{groups_from, group_counts}
-use Rattle.cu_pull.specs.Pull.{has_axis}
-use Rattle.cu_pull.specs.declared.axes.Axes.{Axes}
+use Rattle.cu_origin.specs.Pull.{has_axis}
+use Rattle.cu_origin.specs.declared.axes.Axes.{Axes}
 use Rattle.cu_op.specs.Partial.{partial_grid, merge_groups}
 use Rattle.cu_node.specs.declared.info.NodeInfo.{NodeInfo}
 use Rattle.cu_tree.specs.Partials.{partial_size, partial_chunk_from, first_partial, merged}

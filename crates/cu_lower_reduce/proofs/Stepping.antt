@@ -8,7 +8,7 @@ use Rattle.cu_shape.specs.Counts.{counts_of}
 use Rattle.cu_shape.specs.Index.{product}
 use Rattle.cu_grid.specs.Grid.{RegularGrid}
 use Rattle.cu_reduce.specs.Kinds.{Accumulates, HasEnough}
-use Rattle.cu_pull.specs.declared.axes.Axes.{Axes}
+use Rattle.cu_origin.specs.declared.axes.Axes.{Axes}
 use Rattle.cu_op.specs.Arrays.{grid_at, type_at, chunk_room}
 use Rattle.cu_op.specs.Operation.{Fits}
 use Rattle.cu_op.specs.Partial.{partial_grid, merge_groups, IsSqueezed}

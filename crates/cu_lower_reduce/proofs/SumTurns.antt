@@ -3,7 +3,7 @@ use Rattle.std.proofs.Common.{◌≡◌, ℕ, ◌<◌, ◌≤◌, ◌==◌, Bool
 use Rattle.std.proofs.lemmas.Bool.Decides.{eqb_tells}
 use Rattle.cu_reduce.specs.Groups.{groups_of}
 use Rattle.cu_reduce.specs.Tiers.{IsOnly}
-use Rattle.cu_pull.specs.Pull.{has_axis}
+use Rattle.cu_origin.specs.Pull.{has_axis}
 use Rattle.cu_op.specs.Partial.{partial_grid, merge_groups, place_groups}
 use Rattle.cu_node.specs.declared.info.NodeInfo.{NodeInfo}
 use Rattle.cu_tree.specs.Partials.{merged}

@@ -3,8 +3,8 @@ use Rattle.std.specs.Prelude.{ℕ, ◌+◌, List, [], ◌∷◌, None}
 use Rattle.cu_num.specs.declared.folds.FoldKind.{FoldKind}
 use Rattle.cu_reduce.specs.Groups.{Groups, groups_of, group_of, group_indices}
 use Rattle.cu_reduce.specs.Kinds.{Accumulates, HasEnough}
-use Rattle.cu_pull.specs.Pull.{has_axis}
-use Rattle.cu_pull.specs.declared.axes.Axes.{Axes}
+use Rattle.cu_origin.specs.Pull.{has_axis}
+use Rattle.cu_origin.specs.declared.axes.Axes.{Axes}
 use Rattle.cu_op.specs.Partial.{partial_grid, IsSqueezed}
 use Rattle.cu_op.specs.declared.operation.Op.TheVariants.{Fold, Merge}
 use Rattle.cu_node.specs.Info.{IsInfo}

@@ -1,7 +1,6 @@
 //! The steps of a reduction.
 
-ghost use Rattle.std.specs.Prelude.{◌≡◌, ◌≤◌, ◌<◌, ◌^◌, Some, slice_get, length};
-ghost use Rattle.cu_tree.specs.Partials.{AreMerges};
+ghost use Rattle.std.specs.Prelude.{◌≡◌, ◌≤◌, ◌<◌, Some, slice_get, length};
 ghost use Rattle.cu_lower_reduce.specs.Partials.{IsSetting};
 ghost use Rattle.cu_lower_reduce.specs.Reductions.{folded, reduction_steps, IsReduction};
 
@@ -10,7 +9,7 @@ use crate::step::{Setting, Step};
 use cu_node::NodeInfo;
 use cu_num::FoldKind;
 use cu_op::Op;
-use cu_pull::Axes;
+use cu_origin::Axes;
 use cu_tree::{Round, first_partial, fold_need, reduction_rounds};
 
 /// A reduction of an array.

@@ -1,6 +1,6 @@
 //! The steps of a search for the place of the least or the greatest element.
 
-ghost use Rattle.std.specs.Prelude.{◌≡◌, ◌≤◌, ◌<◌, ◌+◌, ◌^◌, Some, slice_get, length, ◌-◌};
+ghost use Rattle.std.specs.Prelude.{◌≡◌, ◌≤◌, ◌<◌, ◌^◌, Some, slice_get, length, ◌-◌};
 ghost use Rattle.cu_tree.specs.Partials.{AreMerges};
 ghost use Rattle.cu_lower_reduce.specs.Partials.{IsSetting};
 ghost use Rattle.cu_lower_reduce.specs.Searches.{stored, places_number, pair_merges, pairs_found, search_steps, IsSearch};

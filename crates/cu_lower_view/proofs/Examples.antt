@@ -3,7 +3,7 @@ use Rattle.std.proofs.Common.{◌≡◌, [], ◌∷◌, List, Some, None, pos, n
 use Rattle.cu_form.specs.declared.args.Arg.{Arg}
 use Rattle.cu_form.specs.declared.form.Form.{Form}
 use Rattle.cu_node.specs.declared.index_item.IndexItem.TheVariants.{At, Slice, New, Ellipsis}
-use Rattle.cu_pull.specs.declared.pull.Pull.TheVariants as pull
+use Rattle.cu_origin.specs.declared.pull.Pull.TheVariants as pull
 use Rattle.cu_lower_view.specs.Runs.{slice_run}
 use Rattle.cu_lower_view.specs.View.{view_of}
 

@@ -18,7 +18,7 @@ use Rattle.cu_node.specs.Fault.{fault}
 use Rattle.cu_node.specs.Info.{info_at}
 use Rattle.cu_node.specs.declared.faults.FaultCode.TheVariants.{Promote, Axis, Shape}
 use Rattle.cu_node.specs.declared.info.NodeInfo.{NodeInfo}
-use Rattle.cu_pull.specs.Fits.{FitsConcat, FitsStack}
+use Rattle.cu_origin.specs.Fits.{FitsConcat, FitsStack}
 use Rattle.cu_typing_view.specs.Pieces.{promoted_from, promoted, same_shape, same_off, concat_along, stack_along, typed_concat, typed_stack}
 use Rattle.cu_lower_view.specs.Axes.{named_axis}
 use Rattle.cu_lower_view.specs.Sources.{shapes_of, dtypes_of}

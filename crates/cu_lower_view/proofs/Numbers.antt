@@ -20,10 +20,10 @@ use Rattle.cu_node.specs.declared.faults.FaultCode.TheVariants.{Kind, Scalar, In
 use Rattle.cu_node.specs.declared.info.NodeInfo.{NodeInfo}
 use Rattle.cu_node.specs.declared.literal.Literal.{Literal}
 use Rattle.cu_node.specs.declared.literal.Literal.TheVariants.{Int, Truth}
-use Rattle.cu_pull.specs.Pull.{concat_from}
-use Rattle.cu_pull.specs.declared.provenance.Provenance.{Provenance}
-use Rattle.cu_pull.specs.declared.provenance.Provenance.TheVariants.{From, Const}
-use Rattle.cu_pull.proofs.AxesInside.{inside_at}
+use Rattle.cu_origin.specs.Pull.{concat_from}
+use Rattle.cu_origin.specs.declared.provenance.Provenance.{Provenance}
+use Rattle.cu_origin.specs.declared.provenance.Provenance.TheVariants.{From, Const}
+use Rattle.cu_origin.proofs.AxesInside.{inside_at}
 use Rattle.cu_typing_view.specs.Creation.{arange_count, arange_element, holds_ends, typed_full, typed_numbers, typed_arange, typed_eye}
 use Rattle.cu_lower_view.proofs.Typed.{checked_array}
 

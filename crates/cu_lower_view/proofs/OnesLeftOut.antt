@@ -11,7 +11,7 @@ use Rattle.cu_node.specs.Fault.{fault}
 use Rattle.cu_node.specs.Limited.{limited}
 use Rattle.cu_node.specs.declared.faults.FaultCode.TheVariants.{Axis}
 use Rattle.cu_node.specs.declared.info.NodeInfo.{NodeInfo}
-use Rattle.cu_pull.specs.Fits.{without_ones}
+use Rattle.cu_origin.specs.Fits.{without_ones}
 use Rattle.cu_typing_view.specs.NewShapes.{typed_expand, unless_marked, unmarked, are_single, typed_squeeze}
 use Rattle.cu_lower_view.proofs.Typed.{limited_array}
 

@@ -6,7 +6,7 @@ use Rattle.std.proofs.lemmas.Bool.{and_parts, eqb-true}
 use Rattle.std.proofs.lemmas.List.{length-map}
 use Rattle.cu_node.specs.Axes.{marked_of, marked_after}
 use Rattle.cu_typing_view.specs.Rearranged.{is_permutation, permuted_sizes}
-use Rattle.cu_pull.specs.Fits.{FitsPermute}
+use Rattle.cu_origin.specs.Fits.{FitsPermute}
 use Rattle.cu_lower_view.specs.Axes.{named_axis}
 use Rattle.cu_lower_view.proofs.Marks.{named_from_start, first_named, each_named}
 

@@ -17,11 +17,11 @@ use Rattle.cu_node.specs.declared.info.NodeInfo.{NodeInfo}
 use Rattle.cu_node.specs.declared.new_shape.NewShape.{NewShape}
 use Rattle.cu_form.specs.declared.args.Arg.{Arg}
 use Rattle.cu_form.specs.declared.form.Form.{Form}
-use Rattle.cu_pull.specs.Fits.{FitsSlice}
-use Rattle.cu_pull.specs.Pull.{is_in_triangle, diagonal_of}
-use Rattle.cu_pull.specs.declared.provenance.Provenance.TheVariants.{From, Const}
-use Rattle.cu_pull.specs.declared.pull.Pull.{Pull}
-use Rattle.cu_pull.specs.declared.pull.Pull.TheVariants as pull
+use Rattle.cu_origin.specs.Fits.{FitsSlice}
+use Rattle.cu_origin.specs.Pull.{is_in_triangle, diagonal_of}
+use Rattle.cu_origin.specs.declared.provenance.Provenance.TheVariants.{From, Const}
+use Rattle.cu_origin.specs.declared.pull.Pull.{Pull}
+use Rattle.cu_origin.specs.declared.pull.Pull.TheVariants as pull
 use Rattle.cu_typing_view.specs.Entries.{untaken, first_wrong, index_shape, index_chunk, unless_wrong}
 use Rattle.cu_typing_view.specs.Rearranged.{is_permutation, permuted_sizes, are_axes}
 use Rattle.cu_typing_view.specs.Reshaped.{stretches_to}

@@ -11,8 +11,8 @@ use Rattle.cu_shape.specs.declared.slice.Run.{Run}
 use Rattle.cu_shape.proofs.Runs.{taken_inside}
 use Rattle.cu_node.specs.declared.index_item.IndexItem.{IndexItem}
 use Rattle.cu_node.specs.declared.index_item.IndexItem.TheVariants.{At, Slice, New, Ellipsis}
-use Rattle.cu_pull.specs.Fits.{AreRuns, without_ones, FitsSlice}
-use Rattle.cu_pull.specs.Pull.{counts_of_runs}
+use Rattle.cu_origin.specs.Fits.{AreRuns, without_ones, FitsSlice}
+use Rattle.cu_origin.specs.Pull.{counts_of_runs}
 use Rattle.cu_typing_view.specs.Entries.{width_of, is_ellipsis, is_index, step_of, count_taken, is_wrong, first_wrong, sizes_left, index_shape}
 use Rattle.cu_lower_view.specs.Runs.{whole_run, single_run, slice_run, runs_left, index_runs, axis_taken, axes_taken}
 

@@ -10,7 +10,7 @@ use Rattle.cu_form.specs.Form.{is_array, are_arrays}
 use Rattle.cu_form.specs.declared.args.Arg.{Arg}
 use Rattle.cu_node.specs.Info.{IsInfo, info_at, no_info}
 use Rattle.cu_node.specs.declared.info.NodeInfo.{NodeInfo}
-use Rattle.cu_pull.specs.Fits.{OfOne}
+use Rattle.cu_origin.specs.Fits.{OfOne}
 use Rattle.cu_lower_view.specs.Sources.{sources_of, shapes_of, dtypes_of}
 
 single : (args : List Arg) → are_arrays 1 1 args ≡ true → (n : ℕ) × (args ≡ Arg.Node n ∷ [])

@@ -3,7 +3,7 @@
 use Rattle.std.specs.Prelude.{ℕ, ◌+◌, ◌*◌, ◌==◌, ℤ, pos, Bool, true, List, [], ◌∷◌, map, slice_index_or, Option, Some, None, unwrap_or, if◌then◌else◌}
 use Rattle.std.specs.List.{range_with_len, list_any, position_or_len}
 use Rattle.cu_node.specs.Axes.{axis_of}
-use Rattle.cu_pull.specs.declared.axes.Axes.{Axes}
+use Rattle.cu_origin.specs.declared.axes.Axes.{Axes}
 
 -- the axis that a number names in an array of this rank; 0 where it names none, which typing refuses
 abbrev pub named_axis : ℕ → ℤ → ℕ

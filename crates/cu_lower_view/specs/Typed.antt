@@ -4,11 +4,11 @@ use Rattle.cu_num.specs.Dtype.{InRange}
 use Rattle.cu_num.specs.Promotion.{promotion}
 use Rattle.cu_num.specs.declared.types.Dtype.{Dtype}
 use Rattle.cu_shape.specs.Index.{IsInside}
-use Rattle.cu_pull.specs.Fits.{FitsPull}
-use Rattle.cu_pull.specs.Pull.{origin_of}
-use Rattle.cu_pull.specs.declared.provenance.Provenance.TheVariants.{Const}
-use Rattle.cu_pull.specs.declared.pull.Pull.{Pull}
-use Rattle.cu_pull.specs.declared.pull.Pull.TheVariants as pull
+use Rattle.cu_origin.specs.Fits.{FitsPull}
+use Rattle.cu_origin.specs.Pull.{origin_of}
+use Rattle.cu_origin.specs.declared.provenance.Provenance.TheVariants.{Const}
+use Rattle.cu_origin.specs.declared.pull.Pull.{Pull}
+use Rattle.cu_origin.specs.declared.pull.Pull.TheVariants as pull
 use Rattle.cu_form.specs.Form.{args_of, takes_args, in_ranges}
 use Rattle.cu_form.specs.declared.form.Form.{Form}
 use Rattle.cu_node.specs.Fault.{fault}

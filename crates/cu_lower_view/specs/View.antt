@@ -1,8 +1,8 @@
 -- The pull of a view: from where each element of a node's array comes, by the node's form (Python array API, "Creation Functions",
 -- "Manipulation Functions", "Indexing"). `source` is the shape of the first array that the view reads.
 use Rattle.std.specs.Prelude.{ℕ, ◌+◌, nat_le, ℤ, List, [], length, map, Option, Some, None, if◌then◌else◌}
-use Rattle.cu_pull.specs.declared.pull.Pull.{Pull}
-use Rattle.cu_pull.specs.declared.pull.Pull.TheVariants as pull
+use Rattle.cu_origin.specs.declared.pull.Pull.{Pull}
+use Rattle.cu_origin.specs.declared.pull.Pull.TheVariants as pull
 use Rattle.cu_form.specs.declared.form.Form.{Form}
 use Rattle.cu_node.specs.Literal.{literal_number}
 use Rattle.cu_node.specs.declared.index_item.IndexItem.{IndexItem}

@@ -5,7 +5,7 @@ ghost use Rattle.cu_lower_view.specs.Axes.{named_axis, is_turned, axes_that, shi
 
 use arrayvec::ArrayVec;
 use cu_node::axis_of;
-use cu_pull::Axes;
+use cu_origin::Axes;
 
 /// The axis that a number names, a negative one counted from the end; 0 where it names none.
 pub(crate) fn named_axis(rank: u32, number: i64) -> u32

@@ -1,12 +1,12 @@
 //! The runs that an index takes of an array.
 ghost use Rattle.std.specs.Prelude.{◌≡◌, ◌+◌, ◌<◌, ◌≤◌, ◌^◌, ◌++◌, [], ◌∷◌, IfSome, IfNone, length, map, take, drop};
-ghost use Rattle.cu_pull.specs.declared.pull.Pull.TheVariants.{Slice};
+ghost use Rattle.cu_origin.specs.declared.pull.Pull.TheVariants.{Slice};
 ghost use Rattle.cu_lower_view.specs.Runs.{whole_run, single_run, slice_run, runs_left, index_runs, axis_taken, axes_taken};
 ghost use Rattle.cu_lower_view.specs.View.{slice_pull};
 
 use arrayvec::ArrayVec;
 use cu_node::{IndexItem, size_at};
-use cu_pull::Pull;
+use cu_origin::Pull;
 use cu_shape::{Dims, Run, slice_of};
 use cu_typing_view::{untaken, width_of};
 

@@ -1,5 +1,5 @@
 //! The pull of a view by its form.
-ghost use Rattle.std.specs.Prelude.{◌≡◌, ◌≤◌};
+ghost use Rattle.std.specs.Prelude.{◌≡◌};
 ghost use Rattle.cu_form.specs.Form.{HasShortIndex};
 ghost use Rattle.cu_node.specs.Info.{info_at};
 ghost use Rattle.cu_node.specs.Literal.{literal_number};
@@ -10,7 +10,7 @@ use crate::axes::{named_axes, named_axis, shifts_along, turned_axes};
 use crate::entries::{slice_pull, whole_pull};
 use cu_form::{Arg, Form, Items};
 use cu_node::{Literal, NewShape, NodeInfo, info_at};
-use cu_pull::Pull;
+use cu_origin::Pull;
 use cu_shape::Dims;
 
 /// The number of a value that is written.

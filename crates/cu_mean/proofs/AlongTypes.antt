@@ -7,8 +7,8 @@ use Rattle.cu_num.specs.declared.folds.FoldKind.{FoldKind}
 use Rattle.cu_num.specs.declared.folds.FoldKind.TheVariants as fold
 use Rattle.cu_node.specs.Axes.{axis_of}
 use Rattle.cu_node.specs.declared.info.NodeInfo.{NodeInfo}
-use Rattle.cu_meaning.specs.Along.{line_axis}
-use Rattle.cu_meaning.specs.Index.{axis_in}
+use Rattle.cu_semantics.specs.Along.{line_axis}
+use Rattle.cu_semantics.specs.Index.{axis_in}
 use Rattle.cu_typing.specs.Along.{summed_axis, typed_cumulative, typed_groups}
 use Rattle.cu_typing.proofs.PassedAlong.{cumulative_passed, groups_passed}
 use Rattle.cu_mean.proofs.NodeTypes.{sum_type}

@@ -3,7 +3,7 @@ use Rattle.std.proofs.Common.{◌≡◌, ◌≢◌, ◌<◌, ◌≤◌, ℕ, ℤ
 use Rattle.cu_num.specs.declared.types.Dtype.{Dtype}
 use Rattle.cu_form.specs.declared.args.Arg.{Arg}
 use Rattle.cu_node.specs.declared.element_op.ElementOp.{ElementOp}
-use Rattle.cu_meaning.specs.Rule.{function_value}
+use Rattle.cu_semantics.specs.Rule.{function_value}
 
 abbrev pub arity : ElementOp → ℕ
 arity (ElementOp.One f) = 1

@@ -13,7 +13,7 @@ use Rattle.cu_node.specs.Info.{info_at, info_of}
 use Rattle.cu_node.specs.declared.element_op.ElementOp.{ElementOp}
 use Rattle.cu_node.specs.declared.info.NodeInfo.{NodeInfo}
 use Rattle.cu_node.specs.declared.literal.Literal.{Literal}
-use Rattle.cu_meaning.specs.Meaning.{meaning_of}
+use Rattle.cu_semantics.specs.Meaning.{meaning_of}
 use Rattle.cu_mean.specs.Going.{input_elements}
 use Rattle.cu_mean.specs.Plain.{PlainArray}
 use Rattle.cu_mean.specs.Whole.{inputs_before, HoldsElements}

@@ -9,8 +9,8 @@ use Rattle.cu_form.specs.declared.expr.Node.{Node}
 use Rattle.cu_form.specs.declared.form.Form.{Form}
 use Rattle.cu_node.specs.Info.{IsInfo, info_at, no_info}
 use Rattle.cu_node.specs.declared.info.NodeInfo.{NodeInfo}
-use Rattle.cu_meaning.specs.Argument.{NodeElements}
-use Rattle.cu_meaning.specs.Meaning.{meaning_of}
+use Rattle.cu_semantics.specs.Argument.{NodeElements}
+use Rattle.cu_semantics.specs.Meaning.{meaning_of}
 use Rattle.cu_mean.specs.Going.{HasCells, KeepType, AddsComputed, MovesInput, HoldFirst, IsGoing, input_elements}
 use Rattle.cu_mean.specs.Node.{is_input, IsElement, IsReadyNode}
 use Rattle.cu_mean.specs.Plain.{PlainArray}
@@ -21,7 +21,7 @@ use Rattle.cu_mean.proofs.HeldElements.{computed_holds, computed_keeps}
 use Rattle.cu_mean.proofs.InputNodes.{before_input, before_other, input_holds, inputs_fit}
 use Rattle.cu_mean.proofs.Kept.{node_keeps}
 use Rattle.cu_mean.proofs.ReadyNodes.{ready}
-use Rattle.cu_meaning.proofs.InType.{meaning_fits}
+use Rattle.cu_semantics.proofs.InType.{meaning_fits}
 
 -- ---- elements
 

@@ -9,12 +9,12 @@ use Rattle.cu_form.specs.Expression.{Expression, IsExpression}
 use Rattle.cu_form.specs.declared.expr.Node.{Node}
 use Rattle.cu_node.specs.Info.{info_at}
 use Rattle.cu_node.specs.declared.info.NodeInfo.{NodeInfo}
-use Rattle.cu_meaning.specs.Argument.{NodeElements, shape_of_node}
-use Rattle.cu_meaning.specs.Meaning.{meaning_of, AgreeBelow}
-use Rattle.cu_meaning.specs.Rule.{rule_of}
-use Rattle.cu_meaning.specs.Typed.{type_of_node}
-use Rattle.cu_meaning.proofs.Earlier.{node_agrees}
-use Rattle.cu_meaning.proofs.Equation.{equation, outside}
+use Rattle.cu_semantics.specs.Argument.{NodeElements, shape_of_node}
+use Rattle.cu_semantics.specs.Meaning.{meaning_of, AgreeBelow}
+use Rattle.cu_semantics.specs.Rule.{rule_of}
+use Rattle.cu_semantics.specs.Typed.{type_of_node}
+use Rattle.cu_semantics.proofs.Earlier.{node_agrees}
+use Rattle.cu_semantics.proofs.Equation.{equation, outside}
 use Rattle.cu_mean.specs.Going.{HasCells, IsEvaluated, HoldFirst, KeepType}
 use Rattle.cu_mean.specs.Plain.{PlainArray, IsPlain}
 use Rattle.cu_mean.specs.Reading.{plain_at, element_or_zero, elements_in}

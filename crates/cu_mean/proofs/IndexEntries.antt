@@ -9,8 +9,8 @@ use Rattle.cu_shape.specs.Index.{is_inside}
 use Rattle.cu_shape.specs.Slice.{from_end}
 use Rattle.cu_shape.proofs.Places.{outside_rank}
 use Rattle.cu_node.specs.declared.index_item.IndexItem.{IndexItem}
-use Rattle.cu_meaning.specs.Index.{natural}
-use Rattle.cu_meaning.specs.View.{indexed_from, sliced_index}
+use Rattle.cu_semantics.specs.Index.{natural}
+use Rattle.cu_semantics.specs.View.{indexed_from, sliced_index}
 use Rattle.cu_mean.specs.Indexing.{IsOutside}
 use Rattle.cu_mean.specs.declared.indexing.Front.{Front}
 use Rattle.cu_mean.proofs.Joined.{not_below}

@@ -7,7 +7,7 @@ use Rattle.cu_num.specs.declared.types.Dtype.{Dtype}
 use Rattle.cu_num.proofs.Wrapped.{wrapped_in_range}
 use Rattle.cu_shape.specs.Index.{back_along, back}
 use Rattle.std.specs.List.{range_with_len}
-use Rattle.cu_meaning.specs.Matmul.{matmul_at}
+use Rattle.cu_semantics.specs.Matmul.{matmul_at}
 use Rattle.cu_reduce.specs.Products.{batch_of, left_index, right_index}
 use Rattle.cu_reduce.specs.Folds.{exact_sum}
 use Rattle.cu_reduce.proofs.Folding.{zero_in_range}

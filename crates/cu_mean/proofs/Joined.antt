@@ -3,8 +3,8 @@ use Rattle.std.proofs.Common.{◌≡◌, ◌+◌, ◌-◌, ◌<◌, ◌≤◌, z
 use Rattle.std.specs.Prelude.{nat_lt, slice_index, slice_set}
 use Rattle.cu_form.specs.declared.args.Arg.{Arg}
 use Rattle.cu_node.specs.declared.info.NodeInfo.{NodeInfo}
-use Rattle.cu_meaning.specs.Argument.{NodeElements, source_at, source_shape}
-use Rattle.cu_meaning.specs.View.{concat_at}
+use Rattle.cu_semantics.specs.Argument.{NodeElements, source_at, source_shape}
+use Rattle.cu_semantics.specs.View.{concat_at}
 
 -- the array holds the index
 pub concat_here : (infos : List NodeInfo) (at : NodeElements) (axis : ℕ) (args : List Arg) (number : ℕ) (read : List ℕ) → number < length args

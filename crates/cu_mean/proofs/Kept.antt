@@ -18,10 +18,10 @@ use Rattle.cu_expr.specs.declared.inputs.InputInfo.{InputInfo}
 use Rattle.cu_expr.proofs.Nodes.{typed_at, over_all}
 use Rattle.cu_expr.proofs.ToldArguments.{info_kept}
 use Rattle.cu_expr.specs.Inputs.{named_input, stored_of}
-use Rattle.cu_meaning.specs.Argument.{NodeElements, source_shape}
-use Rattle.cu_meaning.specs.Reduction.{reduced_box}
-use Rattle.cu_meaning.specs.Rule.{place_axes}
-use Rattle.cu_meaning.specs.Typed.{type_of_node, FitsType, KeepsType}
+use Rattle.cu_semantics.specs.Argument.{NodeElements, source_shape}
+use Rattle.cu_semantics.specs.Reduction.{reduced_box}
+use Rattle.cu_semantics.specs.Rule.{place_axes}
+use Rattle.cu_semantics.specs.Typed.{type_of_node, FitsType, KeepsType}
 use Rattle.cu_mean.specs.Laws.{FitsInput, FitInputs}
 use Rattle.cu_mean.proofs.KeptElements.{elementwise_fits}
 use Rattle.cu_mean.proofs.KeptNumbers.{full_fits, arange_fits, reduced_within, place_type}

@@ -20,7 +20,7 @@ use Rattle.cu_typing.specs.Types.{pair_type, shared_type, result_type}
 use Rattle.cu_typing.proofs.Passed.{passed}
 use Rattle.cu_expr.specs.Typing.{argument_of}
 use Rattle.cu_expr.proofs.Kernels.{met, bounds_passed}
-use Rattle.cu_meaning.specs.Typed.{type_of_node, FitsType, IsResultType}
+use Rattle.cu_semantics.specs.Typed.{type_of_node, FitsType, IsResultType}
 
 -- a type has its own numbers
 own_numbers : (infos : List NodeInfo) (n : _) (t : Dtype) → type_of_node infos n ≡ t → FitsType infos t (Arg.Node n)

@@ -27,9 +27,9 @@ use Rattle.cu_typing.specs.Reduction.{place_rule, typed_arg_place}
 use Rattle.cu_typing.proofs.PassedTogether.{reduction_passed}
 use Rattle.cu_typing_view.specs.Creation.{arange_count, arange_element, holds_ends, typed_full, typed_numbers, typed_arange}
 use Rattle.cu_expr.proofs.Kernels.{in_range_true, suits_in_range}
-use Rattle.cu_meaning.specs.Index.{is_named}
-use Rattle.cu_meaning.specs.Reduction.{reduced_box}
-use Rattle.cu_meaning.specs.View as view
+use Rattle.cu_semantics.specs.Index.{is_named}
+use Rattle.cu_semantics.specs.Reduction.{reduced_box}
+use Rattle.cu_semantics.specs.View as view
 use Rattle.cu_mean.proofs.KeptViews.{checked_type}
 
 -- ---- one value

@@ -19,7 +19,7 @@ use Rattle.cu_node.specs.declared.info.NodeInfo.{NodeInfo}
 use Rattle.cu_typing.specs.Joined.{arrays_of}
 use Rattle.cu_typing_view.specs.Pieces.{promoted_from, promoted, same_shape, same_off, concat_along, typed_concat, stack_along, typed_stack}
 use Rattle.cu_expr.specs.Typing.{argument_of}
-use Rattle.cu_meaning.specs.Typed.{FitsType}
+use Rattle.cu_semantics.specs.Typed.{FitsType}
 use Rattle.cu_mean.proofs.KeptViews.{checked_type}
 
 -- each number of the array's type is one of this type

@@ -20,7 +20,7 @@ use Rattle.cu_node.specs.Info.{info_at}
 use Rattle.cu_node.specs.declared.element_op.ElementOp.{ElementOp}
 use Rattle.cu_node.specs.declared.info.NodeInfo.{NodeInfo}
 use Rattle.cu_node.proofs.KeptLimits.{given}
-use Rattle.cu_meaning.specs.Argument.{source_shape}
+use Rattle.cu_semantics.specs.Argument.{source_shape}
 use Rattle.cu_reduce.specs.Products.{batch_of, outer_axes, batch_axes}
 use Rattle.cu_typing.specs.Accepted.{GoesInto}
 use Rattle.cu_typing.specs.Elementwise.{joined_array, typed_elementwise}

@@ -19,7 +19,7 @@ use Rattle.cu_node.specs.declared.element_op.ElementOp.{ElementOp}
 use Rattle.cu_node.specs.declared.literal.Literal.{Literal}
 use Rattle.cu_node.specs.declared.literal.Literal.TheVariants.{Int, Truth}
 use Rattle.cu_node.specs.declared.info.NodeInfo.{NodeInfo}
-use Rattle.cu_meaning.specs.Typed.{type_of_node}
+use Rattle.cu_semantics.specs.Typed.{type_of_node}
 use Rattle.cu_typing.specs.Types.{accepts_arguments, met_type, pair_type, shared_type, result_type, typed_elements}
 use Rattle.cu_typing.specs.declared.argument.Argument.{Argument}
 use Rattle.cu_expr.specs.Typing.{argument_of}

@@ -9,7 +9,7 @@ use Rattle.cu_form.specs.declared.expr.Node.{Node}
 use Rattle.cu_form.specs.declared.form.Form.{Form}
 use Rattle.cu_node.specs.Info.{IsInfo, info_at, no_info}
 use Rattle.cu_node.specs.declared.info.NodeInfo.{NodeInfo}
-use Rattle.cu_meaning.specs.Argument.{NodeElements, element_from, source_at}
+use Rattle.cu_semantics.specs.Argument.{NodeElements, element_from, source_at}
 use Rattle.cu_expr.specs.Inputs.{named_input, stored_of}
 use Rattle.cu_expr.specs.Typing.{told_of, typed_form}
 use Rattle.cu_expr.proofs.Nodes.{typed_at, over_all}

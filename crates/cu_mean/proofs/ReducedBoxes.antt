@@ -9,9 +9,9 @@ use Rattle.cu_shape.specs.Index.{product}
 use Rattle.cu_form.specs.declared.args.Arg.{Arg}
 use Rattle.cu_node.specs.Info.{IsInfo}
 use Rattle.cu_node.specs.declared.info.NodeInfo.{NodeInfo}
-use Rattle.cu_meaning.specs.Argument.{source_shape}
-use Rattle.cu_meaning.specs.Index.{is_named}
-use Rattle.cu_meaning.specs.Reduction.{kept_before, reduced_box, reduced_start}
+use Rattle.cu_semantics.specs.Argument.{source_shape}
+use Rattle.cu_semantics.specs.Index.{is_named}
+use Rattle.cu_semantics.specs.Reduction.{kept_before, reduced_box, reduced_start}
 use Rattle.cu_expr.proofs.ToldArguments.{info_kept}
 use Rattle.cu_mean.specs.Reductions.{IsFirstOrSingle}
 

@@ -1,7 +1,7 @@
 -- What an argument of a number names.
 use Rattle.std.proofs.Common.{◌≡◌, ◌<◌, ◌≤◌, ℕ, pos, List, length, get_or, Option, Some, sym, ap, ◌∙◌}
 use Rattle.cu_form.specs.declared.args.Arg.{Arg}
-use Rattle.cu_meaning.specs.Argument.{NodeElements, element_from, source_at}
+use Rattle.cu_semantics.specs.Argument.{NodeElements, element_from, source_at}
 use Rattle.cu_mean.proofs.Found.{found, past}
 
 pub source_past : (at : NodeElements) (args : List Arg) (j : ℕ) (idx : List ℕ) → length args ≤ j → pos 0 ≡ source_at at args j idx

@@ -12,8 +12,8 @@ use Rattle.cu_num.specs.declared.folds.FoldKind.{FoldKind}
 use Rattle.cu_num.specs.declared.folds.FoldKind.TheVariants as fold
 use Rattle.cu_num.proofs.Wrapped.{wrapped-wrapped, wrapped-add, wrapped-mul}
 use Rattle.cu_shape.specs.Index.{IsInside}
-use Rattle.cu_meaning.specs.Index.{is_named}
-use Rattle.cu_meaning.specs.Reduction.{kept_before}
+use Rattle.cu_semantics.specs.Index.{is_named}
+use Rattle.cu_semantics.specs.Reduction.{kept_before}
 use Rattle.cu_reduce.specs.Folds.{fold_of}
 use Rattle.cu_mean.specs.Reductions.{kept_of}
 

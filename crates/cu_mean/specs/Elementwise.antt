@@ -4,8 +4,8 @@ use Rattle.cu_num.specs.Dtype.{InRange}
 use Rattle.cu_num.specs.Scalar.{truth_number}
 use Rattle.cu_form.specs.declared.args.Arg.{Arg}
 use Rattle.cu_node.specs.declared.info.NodeInfo.{NodeInfo}
-use Rattle.cu_meaning.specs.Argument.{argument_at, shape_of_node}
-use Rattle.cu_meaning.specs.Typed.{type_of_node}
+use Rattle.cu_semantics.specs.Argument.{argument_at, shape_of_node}
+use Rattle.cu_semantics.specs.Typed.{type_of_node}
 use Rattle.cu_mean.specs.Reading.{elements_in}
 use Rattle.cu_mean.specs.declared.scope.Scope.{Scope}
 

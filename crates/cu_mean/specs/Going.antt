@@ -6,8 +6,8 @@ use Rattle.cu_form.specs.Expression.{Expression, IsExpression}
 use Rattle.cu_form.specs.declared.form.Form.{Form}
 use Rattle.cu_node.specs.Info.{IsInfo, info_at}
 use Rattle.cu_node.specs.declared.info.NodeInfo.{NodeInfo}
-use Rattle.cu_meaning.specs.Argument.{NodeElements}
-use Rattle.cu_meaning.specs.Meaning.{meaning_of}
+use Rattle.cu_semantics.specs.Argument.{NodeElements}
+use Rattle.cu_semantics.specs.Meaning.{meaning_of}
 use Rattle.cu_mean.specs.Node.{IsElement}
 use Rattle.cu_mean.specs.Plain.{PlainArray}
 use Rattle.cu_mean.specs.Reading.{HasTypeAndShape, element_or_zero}

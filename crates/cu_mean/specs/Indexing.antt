@@ -2,7 +2,7 @@
 use Rattle.std.specs.Prelude.{◌≡◌, ◌≢◌, ℕ, pos, unwrap_or, ◌<◌, ◌≤◌, ◌^◌, false, List, ◌∷◌, ◌++◌, drop, length, All, Option, Some, None}
 use Rattle.cu_shape.specs.Index.{is_inside}
 use Rattle.cu_node.specs.declared.index_item.IndexItem.{IndexItem}
-use Rattle.cu_meaning.specs.View.{indexed_from}
+use Rattle.cu_semantics.specs.View.{indexed_from}
 use Rattle.cu_mean.specs.declared.indexing.Front.{Front}
 use Rattle.cu_mean.specs.declared.indexing.Taken.{Taken}
 

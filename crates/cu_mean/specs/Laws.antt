@@ -5,8 +5,8 @@ use Rattle.cu_form.specs.Expression.{Expression}
 use Rattle.cu_form.specs.declared.expr.Node.{Node}
 use Rattle.cu_form.specs.declared.form.Form.{Form}
 use Rattle.cu_node.specs.declared.info.NodeInfo.{NodeInfo}
-use Rattle.cu_meaning.specs.Argument.{NodeElements}
-use Rattle.cu_meaning.specs.Typed.{type_of_node}
+use Rattle.cu_semantics.specs.Argument.{NodeElements}
+use Rattle.cu_semantics.specs.Typed.{type_of_node}
 
 -- those of node k, where it is an input
 abbrev pub FitsInput : List NodeInfo → NodeElements → ℕ → Form → Type 0

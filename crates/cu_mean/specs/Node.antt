@@ -4,8 +4,8 @@ use Rattle.cu_form.specs.Form.{in_ranges, takes_args}
 use Rattle.cu_form.specs.declared.form.Form.{Form}
 use Rattle.cu_node.specs.Info.{IsInfo, info_at, no_info}
 use Rattle.cu_node.specs.declared.info.NodeInfo.{NodeInfo}
-use Rattle.cu_meaning.specs.Argument.{NodeElements}
-use Rattle.cu_meaning.specs.Rule.{rule_of}
+use Rattle.cu_semantics.specs.Argument.{NodeElements}
+use Rattle.cu_semantics.specs.Rule.{rule_of}
 use Rattle.cu_expr.specs.Typing.{told_of, typed_form}
 use Rattle.cu_shape.specs.Index.{IsInside}
 use Rattle.cu_mean.specs.Plain.{PlainArray}

@@ -3,7 +3,7 @@ use Rattle.std.specs.Prelude.{◌≡◌, ℕ, ℤ, pos, List, Option, Some, None
 use Rattle.cu_shape.specs.Index.{place_of, is_inside}
 use Rattle.cu_node.specs.Info.{info_at}
 use Rattle.cu_node.specs.declared.info.NodeInfo.{NodeInfo}
-use Rattle.cu_meaning.specs.Argument.{NodeElements, source_at}
+use Rattle.cu_semantics.specs.Argument.{NodeElements, source_at}
 use Rattle.cu_mean.specs.Plain.{PlainArray}
 use Rattle.cu_mean.specs.declared.reading.NamedArrays.{NamedArrays}
 

@@ -1,7 +1,7 @@
 //! Axes that a form names, and indices by their axes.
 ghost use Rattle.std.specs.Prelude.{◌≡◌, ◌==◌, ◌<◌, ◌≤ℤ◌, ◌-◌, ◌^◌, pos};
 ghost use Rattle.std.specs.List.{list_any};
-ghost use Rattle.cu_meaning.specs.Index.{axis_in, is_named, natural};
+ghost use Rattle.cu_semantics.specs.Index.{axis_in, is_named, natural};
 ghost use Rattle.cu_mean.specs.Axes.{axes_in};
 
 use cu_form::Items;

@@ -1,7 +1,7 @@
 //! Arrays that are made from nothing, at an index of the result.
 ghost use Rattle.std.specs.Prelude.{◌≡◌, ◌+ℤ◌, ◌*ℤ◌, pos};
 ghost use Rattle.cu_node.specs.Literal.{literal_number};
-ghost use Rattle.cu_meaning.specs.View.{arange_at, eye_at};
+ghost use Rattle.cu_semantics.specs.View.{arange_at, eye_at};
 
 use cu_node::{Literal, size_at};
 use cu_shape::Dims;

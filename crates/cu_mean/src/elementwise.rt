@@ -2,7 +2,7 @@
 ghost use Rattle.std.specs.Prelude.{◌≡◌, ◌∷◌, [], map, All, Ok, if◌then◌else◌};
 ghost use Rattle.std.specs.Int.{int_min, int_max};
 ghost use Rattle.cu_num.specs.Scalar.{op1, op2, is_nonzero};
-ghost use Rattle.cu_meaning.specs.Rule.{function_value};
+ghost use Rattle.cu_semantics.specs.Rule.{function_value};
 ghost use Rattle.cu_typing.specs.Types.{pair_type, typed_elements};
 ghost use Rattle.cu_expr.specs.Typing.{argument_of};
 ghost use Rattle.cu_mean.specs.Elementwise.{argument_in, GoesBack, MayBe};

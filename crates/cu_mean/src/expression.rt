@@ -1,9 +1,8 @@
 //! All nodes of an expression, element by element.
-ghost use Rattle.std.specs.Prelude.{◌≡◌, ◌≤◌, ◌<◌, ◌^◌, ◌+◌, List, true, false, All, length, IfOk, OnOk};
+ghost use Rattle.std.specs.Prelude.{◌≡◌, ◌≤◌, ◌<◌, ◌^◌, ◌+◌, List, All, length, IfOk, OnOk};
 ghost use Rattle.cu_shape.specs.Index.{product, index_at};
-ghost use Rattle.cu_form.specs.Expression.{IsExpression};
 ghost use Rattle.cu_node.specs.Info.{IsInfo};
-ghost use Rattle.cu_meaning.specs.Argument.{NodeElements};
+ghost use Rattle.cu_semantics.specs.Argument.{NodeElements};
 ghost use Rattle.cu_mean.specs.Going.{HasCells, KeepType, IsEvaluated, AddsComputed, MovesInput, IsGoing, HoldFirst, input_elements};
 ghost use Rattle.cu_mean.specs.Node.{IsReadyAt, IsReadyNode};
 ghost use Rattle.cu_mean.specs.Plain.{PlainArray};

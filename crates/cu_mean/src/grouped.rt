@@ -4,7 +4,7 @@ ghost use Rattle.std.specs.List.{range_with_len};
 ghost use Rattle.cu_num.specs.Dtype.{IsInteger};
 ghost use Rattle.cu_num.specs.Wrap.{wrapped};
 ghost use Rattle.cu_num.specs.declared.folds.FoldKind.{FoldKind};
-ghost use Rattle.cu_meaning.specs.Along.{along};
+ghost use Rattle.cu_semantics.specs.Along.{along};
 ghost use Rattle.cu_reduce.specs.Labels.{is_label, group_fold, grouped_at};
 ghost use Rattle.cu_mean.specs.Grouped.{HasKept};
 ghost use Rattle.cu_mean.specs.Reading.{named_element};

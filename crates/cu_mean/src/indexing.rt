@@ -1,10 +1,10 @@
 //! The index at which an indexed array is read.
-ghost use Rattle.std.specs.Prelude.{◌≡◌, ◌≢◌, ◌≤◌, ◌<◌, ◌-◌, ◌++◌, ◌∷◌, [], ℕ, List, pos, ◌+ℤ◌, ◌*ℤ◌, drop, length, All, count_by, unwrap_or};
+ghost use Rattle.std.specs.Prelude.{◌≡◌, ◌≢◌, ◌≤◌, ◌-◌, ◌++◌, ◌∷◌, [], ℕ, List, pos, ◌+ℤ◌, ◌*ℤ◌, drop, length, All, count_by, unwrap_or};
 ghost use Rattle.std.specs.Bool.{OnTrue, OnFalse};
 ghost use Rattle.cu_shape.specs.Slice.{from_end, first_of};
 ghost use Rattle.cu_node.specs.declared.index_item.IndexItem.{IndexItem};
-ghost use Rattle.cu_meaning.specs.Index.{natural};
-ghost use Rattle.cu_meaning.specs.View.{indexed, sliced_index, uses_axis};
+ghost use Rattle.cu_semantics.specs.Index.{natural};
+ghost use Rattle.cu_semantics.specs.View.{indexed, sliced_index, uses_axis};
 ghost use Rattle.cu_mean.specs.Indexing.{read_from, HasStep, IsFoundIndex, IsFront, IsOutside, TakesEntry};
 
 use crate::axes::natural;

@@ -8,9 +8,9 @@ ghost use Rattle.cu_node.specs.Info.{IsInfo};
 ghost use Rattle.cu_node.specs.declared.info.NodeInfo.{NodeInfo};
 ghost use Rattle.cu_expr.specs.Typing.{typed};
 ghost use Rattle.cu_expr.specs.declared.inputs.InputInfo.{InputInfo};
-ghost use Rattle.cu_meaning.specs.Argument.{NodeElements};
-ghost use Rattle.cu_meaning.specs.Meaning.{meaning_of};
-ghost use Rattle.cu_meaning.specs.Typed.{type_of_node, KeepsType};
+ghost use Rattle.cu_semantics.specs.Argument.{NodeElements};
+ghost use Rattle.cu_semantics.specs.Meaning.{meaning_of};
+ghost use Rattle.cu_semantics.specs.Typed.{type_of_node, KeepsType};
 ghost use Rattle.cu_mean.specs.Laws.{FitInputs};
 
 /// The types that typing gives are those that each form keeps, where the elements of the inputs are numbers of their types.

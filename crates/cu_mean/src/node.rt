@@ -1,15 +1,12 @@
 //! The element of a node at an index, by its operator.
-ghost use Rattle.std.specs.Prelude.{◌≡◌, ◌<◌, ◌≤◌, pos, All, length, if◌then◌else◌};
-ghost use Rattle.cu_shape.specs.Index.{IsInside, back, product};
+ghost use Rattle.std.specs.Prelude.{◌≡◌, pos, All};
+ghost use Rattle.cu_shape.specs.Index.{IsInside, product};
 ghost use Rattle.cu_form.specs.declared.form.Form.{Form};
-ghost use Rattle.cu_node.specs.declared.element_op.ElementOp.{ElementOp};
 ghost use Rattle.cu_node.specs.Info.{IsInfo};
-ghost use Rattle.cu_meaning.specs.Argument.{source_at, source_shape};
-ghost use Rattle.cu_meaning.specs.Index.{axis_in};
-ghost use Rattle.cu_meaning.specs.Reduction.{reduced_elements};
+ghost use Rattle.cu_semantics.specs.Argument.{source_at, source_shape};
+ghost use Rattle.cu_semantics.specs.Reduction.{reduced_elements};
 ghost use Rattle.cu_reduce.specs.Places.{best_place};
-ghost use Rattle.cu_pull.specs.Pull.{is_in_triangle};
-ghost use Rattle.cu_meaning.specs.View.{concat_at, flipped_index, permuted_index, rolled_index, same_place, stack_at};
+ghost use Rattle.cu_semantics.specs.View.{same_place};
 ghost use Rattle.cu_mean.specs.Axes.{axes_in};
 ghost use Rattle.cu_mean.specs.Node.{IsReadyAt, IsElementAt};
 ghost use Rattle.cu_mean.specs.Reading.{elements_in};

@@ -1,6 +1,6 @@
 //! Arrays put together, at an index of the result.
 ghost use Rattle.std.specs.Prelude.{◌≡◌, ◌<◌, length};
-ghost use Rattle.cu_meaning.specs.View.{concat_at, stack_at};
+ghost use Rattle.cu_semantics.specs.View.{concat_at, stack_at};
 ghost use Rattle.cu_mean.specs.Reading.{elements_in};
 
 use crate::plain::Plain;

@@ -1,4 +1,4 @@
-ghost use Rattle.std.specs.Prelude.{◌≡◌, ◌<◌, length, slice_get, Some, All};
+ghost use Rattle.std.specs.Prelude.{◌≡◌, ◌<◌, length, slice_get, Some};
 
 use cu_num::Dtype;
 use cu_shape::Dims;
@@ -23,8 +23,6 @@ impl Model for Plain {
 }
 
 impl Plain {
-    ghost use Rattle.cu_mean.specs.Plain.{IsPlain};
-
     /// The array of these elements, as many as the shape says, each in the type's range.
     pub fn make(dtype: Dtype, dims: Dims, cells: Vec<i128>) -> Plain
         requires { IsPlain (record { dtype = dtype; dims = dims; cells = cells.items }) }
@@ -73,8 +71,7 @@ pub struct Plains {
 }
 
 impl Model for Plains {
-    ghost use Rattle.std.specs.Prelude.{List, All};
-    ghost use Rattle.cu_mean.specs.Plain.{PlainArray};
+    ghost use Rattle.std.specs.Prelude.{List};
 
     ghost Value = { List PlainArray };
 

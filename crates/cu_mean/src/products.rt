@@ -3,7 +3,7 @@ ghost use Rattle.std.specs.Prelude.{◌≡◌, ◌<◌, ◌≤◌, ℕ, List, �
 ghost use Rattle.cu_num.specs.Dtype.{IsInteger};
 ghost use Rattle.cu_num.specs.Wrap.{wrapped};
 ghost use Rattle.cu_shape.specs.Index.{back};
-ghost use Rattle.cu_meaning.specs.Matmul.{matmul_at};
+ghost use Rattle.cu_semantics.specs.Matmul.{matmul_at};
 ghost use Rattle.cu_reduce.specs.Products.{batch_of, outer_axes, batch_axes, left_index, right_index};
 ghost use Rattle.cu_mean.specs.Reading.{named_element};
 

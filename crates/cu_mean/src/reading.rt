@@ -3,8 +3,8 @@ ghost use Rattle.std.specs.Prelude.{◌≡◌, ◌≤◌, List, length};
 ghost use Rattle.cu_shape.specs.Index.{back};
 ghost use Rattle.cu_num.specs.Dtype.{InRange};
 ghost use Rattle.cu_node.specs.declared.info.NodeInfo.{NodeInfo};
-ghost use Rattle.cu_meaning.specs.Argument.{argument_at, source_at, source_shape};
-ghost use Rattle.cu_meaning.specs.Typed.{type_of_node};
+ghost use Rattle.cu_semantics.specs.Argument.{source_at, source_shape};
+ghost use Rattle.cu_semantics.specs.Typed.{type_of_node};
 ghost use Rattle.cu_mean.specs.Reading.{plain_at, elements_in, HaveTypesAndShapes};
 
 use crate::plain::Plain;

@@ -2,7 +2,7 @@
 ghost use Rattle.std.specs.Prelude.{◌≡◌, ◌<◌, length};
 ghost use Rattle.cu_num.specs.Dtype.{IsInteger};
 ghost use Rattle.cu_num.specs.Wrap.{wrapped};
-ghost use Rattle.cu_meaning.specs.Along.{line_axis, along, sum_up_to};
+ghost use Rattle.cu_semantics.specs.Along.{line_axis, along, sum_up_to};
 ghost use Rattle.cu_mean.specs.Reading.{named_element};
 
 use crate::axes::axis_in;

@@ -4,9 +4,9 @@ ghost use Rattle.cu_shape.specs.Index.{IsInside, product};
 ghost use Rattle.std.specs.Int.{int_rem_euclid};
 ghost use Rattle.std.specs.List.{position_or_len};
 ghost use Rattle.std.specs.Ordering.{int_eq};
-ghost use Rattle.cu_meaning.specs.Index.{axis_in, is_named, natural};
-ghost use Rattle.cu_meaning.specs.View.{flipped_index, permuted_index, shift_on, rolled_index, same_place};
-ghost use Rattle.cu_pull.specs.Pull.{diagonal_of, is_in_triangle};
+ghost use Rattle.cu_semantics.specs.Index.{axis_in, is_named, natural};
+ghost use Rattle.cu_semantics.specs.View.{flipped_index, permuted_index, shift_on, rolled_index, same_place};
+ghost use Rattle.cu_origin.specs.Pull.{diagonal_of, is_in_triangle};
 
 use crate::axes::{is_named, names, natural};
 use crate::digits::index_at;

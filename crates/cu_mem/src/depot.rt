@@ -1,5 +1,5 @@
 //! A depot in memory.
-ghost use Rattle.std.specs.Prelude.{◌≡◌, ◌≢◌, ◌≤◌, ◌↔◌, ◌++◌, ◌∷◌, [], ℕ, List, Option, Some, None, true, IsTrue, IsErr, OnOk, OnErr, length, take};
+ghost use Rattle.std.specs.Prelude.{◌≡◌, ◌≢◌, ◌≤◌, ◌↔◌, ◌++◌, ◌∷◌, [], ℕ, List, Some, None, IsTrue, IsErr, OnOk, OnErr, length, take};
 ghost use Rattle.std.specs.Option.{option_copied};
 ghost use Rattle.cu_store.specs.Held.{Gets, Answers, Holds, IsGone};
 ghost use Rattle.cu_store.specs.Steps.{NoChange, PutOf, RemovalOf, Steps, LandsLate, AddsOnlyFailed, Caused};
@@ -46,10 +46,10 @@ impl Model for MemDepot {
 }
 
 impl MemDepot {
-    ghost use Rattle.cu_mem.specs.Memory.{contents, shown_of, loan_of, Begins};
+    ghost use Rattle.cu_mem.specs.Memory.{contents, shown_of, Begins};
     ghost use Rattle.cu_mem.specs.Script.{LandsOnce, started, fate};
     ghost use Rattle.cu_store.specs.Faults.{last_count};
-    ghost use Rattle.std.specs.Prelude.{◌+◌, min};
+    ghost use Rattle.std.specs.Prelude.{min};
 
     /// An empty depot, whose calls fail where the script says so. A rule with a `land` has `times`
     /// 1.
@@ -180,7 +180,7 @@ fn copy_front(bytes: &[u8], buf: &mut [u8]) -> u64
 }
 
 impl Depot for MemDepot {
-    ghost use Rattle.cu_mem.specs.Memory.{contents, shown_of, OnlyLands, LandsAndSets, put_late};
+    ghost use Rattle.cu_mem.specs.Memory.{OnlyLands, LandsAndSets, put_late};
     ghost use Rattle.cu_mem.specs.Late.{waiting, late_writes};
     ghost use Rattle.cu_mem.specs.Script.{fails, land, next, Raises};
 

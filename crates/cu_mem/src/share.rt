@@ -1,10 +1,10 @@
 //! A depot in memory whose keys are shared for a while.
-ghost use Rattle.std.specs.Prelude.{◌≡◌, ◌+◌, ◌-◌, ◌++◌, ◌<◌, ◌≤◌, ◌⊎◌, ◌&&◌, ◌||◌, not, min, if◌then◌else◌, List, ℕ, IsTrue, All, false, [], Some, None, IfOk, OnOk, OnErr, length, map, vec_len};
+ghost use Rattle.std.specs.Prelude.{◌≡◌, ◌+◌, ◌-◌, ◌++◌, ◌<◌, ◌≤◌, ◌⊎◌, ◌&&◌, ◌||◌, not, min, if◌then◌else◌, List, ℕ, IsTrue, All, false, [], Some, IfOk, OnOk, OnErr, length, map, vec_len};
 ghost use Rattle.std.specs.Option.{is_some};
 ghost use Rattle.std.specs.Str.{bytes_eq};
 ghost use Rattle.std.specs.Vec.{vec_capacity};
 ghost use Rattle.cu_store.specs.Faults.{last_count};
-ghost use Rattle.cu_store.specs.Yard.{bytes_under, is_made, is_served, IsLater};
+ghost use Rattle.cu_store.specs.Yard.{bytes_under, is_made, IsLater};
 ghost use Rattle.cu_store.specs.Share.{KeysDiffer, IsPromiseOf, PutPromised};
 ghost use Rattle.cu_cells.specs.Cells.{spec_key, FitIn};
 ghost use Rattle.cu_cells.specs.Yard.{served_by, known_of, known_entries, script_of, waits_of, landed_of, room_size, IsHandOf, IsOwnPass};

@@ -1,5 +1,5 @@
 //! A source and a sink in memory.
-ghost use Rattle.std.specs.Prelude.{◌≡◌, ◌⊎◌, ◌↔◌, ◌-◌, ◌<◌, ◌≤◌, [], ℕ, Some, IsTrue, IsErr, IfOk, OnErr, length, min, take};
+ghost use Rattle.std.specs.Prelude.{◌≡◌, ◌⊎◌, ◌↔◌, ◌-◌, ◌<◌, ◌≤◌, [], Some, IsTrue, IsErr, IfOk, OnErr, length, min, take};
 ghost use Rattle.cu_store.specs.Faults.{Rose, MadeOne};
 ghost use Rattle.cu_store.specs.Streams.{Takes, Appends};
 ghost use Rattle.cu_mem.specs.Streams.{FailsAt, RaisesOne};
@@ -88,7 +88,7 @@ pub struct MemSink {
 }
 
 impl Model for MemSink {
-    ghost use Rattle.std.specs.Prelude.{◌≤◌, vec_len};
+    ghost use Rattle.std.specs.Prelude.{vec_len};
     ghost use Rattle.std.specs.Vec.{vec_capacity};
     ghost use Rattle.cu_mem.specs.Streams.{Writing};
 

@@ -5,7 +5,7 @@ use Rattle.std.proofs.lemmas.Bool.{ltb-true}
 use Rattle.std.proofs.lemmas.Bool.Decides.{eqb_tells}
 use Rattle.std.proofs.lemmas.List.{get_or-set_same, get_or-set_other}
 use Rattle.cu_result.proofs.OptionSteps.{step_some, when_some}
-use Rattle.cu_pull.specs.Pull.{has_axis}
+use Rattle.cu_origin.specs.Pull.{has_axis}
 use Rattle.cu_node.specs.Axes.{axis_of}
 use Rattle.cu_typing.specs.Reduction.{marks_of}
 use Rattle.cu_tree.specs.Marks.{sought_axes}

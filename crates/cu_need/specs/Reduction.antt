@@ -4,7 +4,7 @@
 use Rattle.std.specs.Prelude.{ℕ, ◌+◌, ◌-◌, ◌*◌, false, ℤ, List, length, take, slice_get, replicate, Option, Some, option_and_then, unwrap_or}
 use Rattle.cu_num.specs.Dtype.{size_of}
 use Rattle.cu_shape.specs.Index.{product}
-use Rattle.cu_pull.specs.declared.axes.Axes.{Axes}
+use Rattle.cu_origin.specs.declared.axes.Axes.{Axes}
 use Rattle.cu_form.specs.declared.args.Arg.{Arg}
 use Rattle.cu_node.specs.Axes.{axis_of}
 use Rattle.cu_node.specs.Info.{info_at, no_info}

@@ -1,6 +1,6 @@
 //! The memory of an elementwise node.
 
-ghost use Rattle.std.specs.Prelude.{◌≡◌, ◌≤◌, ◌+◌, ◌*◌, ◌^◌, ◌++◌, true, length, map};
+ghost use Rattle.std.specs.Prelude.{◌≡◌, ◌≤◌, ◌+◌, ◌^◌, ◌++◌, true, length, map};
 ghost use Rattle.cu_node.specs.Info.{IsInfo};
 ghost use Rattle.cu_typing.specs.Joined.{aligned_within};
 ghost use Rattle.cu_need.specs.Chunks.{arrays_in};

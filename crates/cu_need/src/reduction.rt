@@ -1,9 +1,7 @@
 //! The memory of reductions, of searches for places and of products of matrices, and what is counted of them.
 
-ghost use Rattle.std.specs.Prelude.{◌≡◌, ◌≤◌, ◌<◌, ◌+◌, ◌*◌, ◌^◌, true, All, take, length, option_map};
-ghost use Rattle.cu_num.specs.Dtype.{size_of};
+ghost use Rattle.std.specs.Prelude.{◌≡◌, ◌≤◌, ◌<◌, ◌^◌, true, take, length, option_map};
 ghost use Rattle.cu_num.specs.declared.types.Dtype.TheVariants.{Int64};
-ghost use Rattle.cu_shape.specs.Index.{product};
 ghost use Rattle.cu_node.specs.Info.{IsInfo};
 ghost use Rattle.cu_node.specs.Limited.{is_chunk_within};
 ghost use Rattle.cu_tree.specs.Needs.{with_merges};
@@ -16,7 +14,7 @@ use cu_copy::{Rechunk, chunk_bytes, wanted_bytes};
 use cu_form::{Arg, Items};
 use cu_node::{NodeInfo, all_axes, axis_of, grown, info_at, named_axes, size_at};
 use cu_num::{Dtype, size};
-use cu_pull::Axes;
+use cu_origin::Axes;
 use cu_shape::Dims;
 use cu_tree::{
     Round, chunks_before, chunks_written, first_partial, fold_need, marked_axes, merge_need,

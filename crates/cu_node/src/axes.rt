@@ -1,4 +1,4 @@
-ghost use Rattle.std.specs.Prelude.{◌≡◌, ◌≤◌, ◌<◌, IfSome, IsSome, length};
+ghost use Rattle.std.specs.Prelude.{◌≡◌, ◌≤◌, ◌<◌, IfSome};
 ghost use Rattle.cu_node.specs.Axes.{axis_of, marked_of, all_marked};
 
 /// The axis that a number names in an array of this rank: from -rank to rank - 1, a negative number counting from the end

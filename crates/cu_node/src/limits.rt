@@ -1,4 +1,4 @@
-ghost use Rattle.std.specs.Prelude.{◌≡◌, ◌<◌, ◌≤◌, IfOk, All, Bool, true, length, nat_le, ◌&&◌};
+ghost use Rattle.std.specs.Prelude.{◌≡◌, ◌<◌, IfOk, All, length};
 ghost use Rattle.cu_node.specs.Info.{IsInfo};
 ghost use Rattle.cu_node.specs.Limited.{is_chunk_within, limited, limited_beside};
 

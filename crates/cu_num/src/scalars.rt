@@ -1,6 +1,5 @@
-ghost use Rattle.std.specs.Prelude.{◌≡◌, ◌≢◌, ◌≤◌, ℤ, pos, neg_ℤ, ◌+ℤ◌, ◌-ℤ◌, ◌*ℤ◌, ◌≤ℤ◌, unsigned_abs};
-ghost use Rattle.cu_num.specs.Dtype.{InRange, bit_width};
-ghost use Rattle.cu_num.specs.Wrap.{wrapped};
+ghost use Rattle.std.specs.Prelude.{◌≡◌, ◌≢◌};
+ghost use Rattle.cu_num.specs.Dtype.{InRange};
 ghost use Rattle.cu_num.specs.Scalar.{op1, op2, result_type1, result_type2};
 
 use crate::division::{floor_divide, floor_remainder_of};

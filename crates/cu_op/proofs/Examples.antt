@@ -6,7 +6,7 @@ use Rattle.cu_num.specs.declared.layout.Encoding.TheVariants.{Plain}
 use Rattle.cu_num.specs.declared.layout.Sep.TheVariants.{Slash}
 use Rattle.cu_num.specs.declared.layout.Endian.TheVariants.{Little}
 use Rattle.cu_num.specs.Wrap.{wrapped}
-use Rattle.cu_pull.specs.declared.pull.Pull.TheVariants.{Concat, Arange}
+use Rattle.cu_origin.specs.declared.pull.Pull.TheVariants.{Concat, Arange}
 use Rattle.cu_op.specs.declared.kernel.Instr.TheVariants.{Load, Const, Two, Select}
 use Rattle.cu_op.specs.declared.layout.ArrayInfo.{ArrayInfo}
 use Rattle.cu_op.specs.declared.operation.Op.{Op}

@@ -7,7 +7,7 @@ use Rattle.cu_num.specs.declared.layout.Encoding.TheVariants.{Plain}
 use Rattle.cu_num.specs.declared.layout.Sep.TheVariants.{Slash}
 use Rattle.cu_num.specs.declared.layout.Endian.TheVariants.{Little}
 use Rattle.cu_num.specs.Wrap.{wrapped}
-use Rattle.cu_pull.specs.declared.axes.Axes.{Axes}
+use Rattle.cu_origin.specs.declared.axes.Axes.{Axes}
 use Rattle.cu_op.specs.declared.layout.ArrayInfo.{ArrayInfo}
 use Rattle.cu_op.specs.declared.operation.Op.{Op}
 use Rattle.cu_op.specs.declared.operation.Op.TheVariants.{Carry, Copy, Fold, Merge, PairFold, PairMerge, Mul, Map, Pull, Scan}
@@ -20,7 +20,7 @@ use Rattle.cu_op.specs.Elements.{Elements}
 use Rattle.cu_op.specs.Value.{values_after}
 use Rattle.cu_op.specs.Walks.{written_chunks, read_chunks, input_walks}
 use Rattle.cu_num.specs.declared.functions.Fn2.TheVariants.{Add}
-use Rattle.cu_pull.specs.declared.pull.Pull.TheVariants.{Concat}
+use Rattle.cu_origin.specs.declared.pull.Pull.TheVariants.{Concat}
 use Rattle.cu_op.specs.declared.kernel.Instr.TheVariants.{Load, Two}
 use Rattle.cu_op.specs.InputCells.{input_cells}
 

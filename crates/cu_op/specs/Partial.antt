@@ -2,8 +2,8 @@
 use Rattle.std.specs.Prelude.{◌≡◌, ◌⊎◌, ℕ, pred, suc, ◌*◌, ◌^◌, ◌<◌, ◌≤◌, min, max, Bool, List, [], ◌∷◌, All, length, map, Option, None, Some, if◌then◌else◌}
 use Rattle.std.specs.Int.{div_ceil}
 use Rattle.cu_grid.specs.Grid.{RegularGrid}
-use Rattle.cu_pull.specs.Pull.{has_axis}
-use Rattle.cu_pull.specs.declared.axes.Axes.{Axes}
+use Rattle.cu_origin.specs.Pull.{has_axis}
+use Rattle.cu_origin.specs.declared.axes.Axes.{Axes}
 use Rattle.cu_reduce.specs.Groups.{Groups, groups_of, groups_along, group_counts, group_lo, group_hi, group_of, group_indices}
 use Rattle.cu_reduce.specs.Places.{is_sought}
 use Rattle.cu_op.specs.declared.groups.GroupedAxes.{GroupedAxes}

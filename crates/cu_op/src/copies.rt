@@ -1,6 +1,5 @@
 //! Copies of operations.
 ghost use Rattle.std.specs.Prelude.{◌≡◌, IfOk};
-ghost use Rattle.cu_op.specs.Kinds.{ReducesToValues, ReducesToPlaces};
 
 use crate::kinds::same_op;
 use crate::operation::Planned;

@@ -10,7 +10,7 @@ ghost use Rattle.cu_op.specs.Reductions.{partial_walk};
 use crate::layout::{ArrayInfo, grid_of};
 use crate::walks::Walk;
 use cu_grid::Region;
-use cu_pull::Axes;
+use cu_origin::Axes;
 use cu_shape::{Dims, index_of, place};
 
 /// The axes that a reduction goes over.

@@ -18,7 +18,7 @@ mod task;
 mod walks;
 
 pub use cells::Cell;
-pub use cu_pull::{Axes, Pull};
+pub use cu_origin::{Axes, Pull};
 pub use kernel::{Instr, Kernel};
 pub use kinds::{KindText, kind_name};
 pub use laws::{

@@ -2,8 +2,8 @@ ghost use Rattle.std.specs.Prelude.{◌≡◌, ◌^◌, ◌*◌, ◌<◌, ◌≤
 ghost use Rattle.cu_num.specs.Dtype.{size_of};
 ghost use Rattle.cu_shape.specs.Index.{product};
 ghost use Rattle.cu_op.specs.Arrays.{type_at, chunk_room};
-ghost use Rattle.cu_op.specs.Operation.{reads_of, writes_of, target_of};
-ghost use Rattle.cu_op.specs.Projection.{projection, input_room, output_room};
+ghost use Rattle.cu_op.specs.Operation.{reads_of, writes_of};
+ghost use Rattle.cu_op.specs.Projection.{projection};
 ghost use Rattle.cu_op.specs.Places.{value_room};
 ghost use Rattle.cu_shape.specs.Counts.{largest};
 

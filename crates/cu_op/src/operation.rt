@@ -1,11 +1,7 @@
-ghost use Rattle.std.specs.Prelude.{◌≡◌, ◌≤◌, length};
-ghost use Rattle.cu_op.specs.Operation.{reads_of, writes_of, target_of};
-ghost use Rattle.cu_op.specs.Projection.{instruction_count};
-
 use crate::kernel::Kernel;
 use arrayvec::ArrayVec;
 use cu_num::FoldKind;
-use cu_pull::{Axes, Pull};
+use cu_origin::{Axes, Pull};
 use cu_shape::Dims;
 
 /// An operation of a plan. It names arrays by their numbers in the plan.

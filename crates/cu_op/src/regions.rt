@@ -1,12 +1,8 @@
 //! The regions of arrays that a task writes, and numbers of axes that are read through broadcasting.
-ghost use Rattle.std.specs.Prelude.{◌≡◌, ◌==◌, ◌<◌, ◌≤◌, ◌∷◌, [], All, length, map, pred, slice_get, OnSome};
-ghost use Rattle.cu_shape.specs.Index.{IsInside};
-ghost use Rattle.cu_grid.specs.Grid.{IsGrid};
-ghost use Rattle.cu_op.specs.Cells.{task_grid};
-ghost use Rattle.cu_op.specs.Operation.{Fits, IsNoLonger, reads_of, writes_of, target_of};
-ghost use Rattle.cu_op.specs.Chunks.{walk, whole_walk};
-ghost use Rattle.cu_op.specs.Kind.Map.{read_walk};
-ghost use Rattle.cu_op.specs.Walks.{region_walks, back_as};
+ghost use Rattle.std.specs.Prelude.{◌≡◌, ◌≤◌, length, map};
+ghost use Rattle.cu_op.specs.Operation.{writes_of};
+ghost use Rattle.cu_op.specs.Chunks.{walk};
+ghost use Rattle.cu_op.specs.Walks.{back_as};
 
 use crate::operation::Op;
 use crate::walks::Walk;

@@ -2,7 +2,6 @@
 ghost use Rattle.std.specs.Prelude.{◌≡◌, ◌↔◌, ◌≤◌, IsTrue, All, length, map, []};
 ghost use Rattle.std.specs.List.{list_any};
 ghost use Rattle.std.specs.Iterator.{YieldsFirst, item_count};
-ghost use Rattle.arrayvec.specs.ArrayVec.{array_vec_len};
 ghost use Rattle.cu_op.specs.Chunks.{cell};
 ghost use Rattle.cu_op.specs.Walks.{IsWalkOver, walk_cells, same_walk, new_walks, cells_of_walks, open_cells};
 

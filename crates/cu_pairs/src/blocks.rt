@@ -1,5 +1,5 @@
 //! The best along an axis: the axes before it number blocks, the axis numbers the rows of each, and the axes behind it their columns.
-ghost use Rattle.std.specs.Prelude.{◌≡◌, ◌+◌, ◌*◌, ◌<◌, ◌≤◌, length, Option, Some, None};
+ghost use Rattle.std.specs.Prelude.{◌≡◌, ◌+◌, ◌*◌, ◌<◌, ◌≤◌, length, Some};
 ghost use Rattle.cu_num.specs.Dtype.{size_of};
 ghost use Rattle.cu_pairs.specs.Columns.{table, HasRows, HasPlacesBeside};
 ghost use Rattle.cu_pairs.specs.Blocks.{sizes, HasBestsAlong, IsTablePart};

@@ -1,5 +1,5 @@
 //! The best of each column, with loops for each type and order, and for places that are counted and places that are read.
-ghost use Rattle.std.specs.Prelude.{◌≡◌, ◌*◌, ◌<◌, ℕ, length, Some, None};
+ghost use Rattle.std.specs.Prelude.{◌≡◌, ◌*◌, ◌<◌, length, Some, None};
 ghost use Rattle.cu_num.specs.Dtype.{size_of};
 ghost use Rattle.cu_pairs.specs.Columns.{table, HasRows, HasBests};
 

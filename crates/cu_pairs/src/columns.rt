@@ -1,6 +1,6 @@
 //! The best of each column of rows that follow one another, row after row.
-ghost use Rattle.std.specs.Prelude.{◌≡◌, ◌+◌, ◌*◌, ◌<◌, ◌≤◌, ℕ, length, Option, Some, None};
-ghost use Rattle.cu_num.specs.Dtype.{size_of, InRange};
+ghost use Rattle.std.specs.Prelude.{◌≡◌, ◌+◌, ◌*◌, length};
+ghost use Rattle.cu_num.specs.Dtype.{size_of};
 ghost use Rattle.cu_pairs.specs.Elements.{found};
 ghost use Rattle.cu_pairs.specs.Columns.{table, sought_place, is_taken, HasRows, HasBests, HasPlacesBeside};
 

@@ -1,9 +1,7 @@
 //! The best of each column of rows of few bytes: the elements of a column are put side by side, a block at a time, so that a block is
 //! searched as one run.
-ghost use Rattle.std.specs.Prelude.{◌≡◌, ◌+◌, ◌-◌, ◌*◌, ◌/◌, ◌<◌, ◌≤◌, ◌≢◌, ℕ, length, Some};
+ghost use Rattle.std.specs.Prelude.{◌≡◌, ◌+◌, ◌-◌, ◌*◌, ◌<◌, ◌≤◌, ◌≢◌, ℕ, length, Some};
 ghost use Rattle.cu_num.specs.Dtype.{size_of};
-ghost use Rattle.cu_num.specs.Element.{element_at};
-ghost use Rattle.cu_num.specs.declared.layout.Endian.TheVariants.{Little};
 ghost use Rattle.cu_pairs.specs.Columns.{table, column_of, HasRows, HasBests};
 ghost use Rattle.cu_pairs.specs.Runs.{elements, IsBestValue, IsFirstBest};
 

@@ -1,9 +1,7 @@
 //! The best of elements that follow one another, by blocks: of each is asked whether an element is beyond the best so far, and only where
 //! one is the first best of the block is sought.
-ghost use Rattle.std.specs.Prelude.{◌≡◌, ◌≢◌, ◌+◌, ◌*◌, ◌/◌, ◌<◌, ◌≤◌, ℕ, ℤ, length, if◌then◌else◌};
-ghost use Rattle.cu_num.specs.Dtype.{size_of, InRange};
-ghost use Rattle.cu_num.specs.Element.{element_at};
-ghost use Rattle.cu_num.specs.declared.layout.Endian.TheVariants.{Little};
+ghost use Rattle.std.specs.Prelude.{◌≡◌, ◌≢◌, ◌+◌, ◌*◌, ◌/◌, ◌<◌, ◌≤◌, ℕ, length, if◌then◌else◌};
+ghost use Rattle.cu_num.specs.Dtype.{size_of};
 ghost use Rattle.cu_reduce.specs.Places.{is_beyond};
 ghost use Rattle.cu_pairs.specs.Runs.{elements, TellsBeyond, IsBestValue, IsFirstBest};
 

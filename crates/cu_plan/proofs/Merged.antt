@@ -14,10 +14,10 @@ use Rattle.cu_op.specs.Elements.{Elements}
 use Rattle.cu_op.specs.Value.{HasTypes, plan_value}
 use Rattle.cu_op.specs.declared.layout.ArrayInfo.{ArrayInfo}
 use Rattle.cu_op.specs.declared.layout.Layout.{Layout}
-use Rattle.cu_state.specs.Names.{HasPlanNames}
+use Rattle.cu_run_law.specs.Names.{HasPlanNames}
 use Rattle.cu_form.specs.Expression.{Expression}
 use Rattle.cu_node.specs.declared.info.NodeInfo.{NodeInfo}
-use Rattle.cu_meaning.specs.Argument.{NodeElements, shape_of_node}
+use Rattle.cu_semantics.specs.Argument.{NodeElements, shape_of_node}
 use Rattle.cu_expr.specs.declared.inputs.InputInfo.{InputInfo}
 use Rattle.cu_fuse.specs.Close.{count_behind, fused, others_before, setting_of, HasInputsFirst, HasMadeNames}
 use Rattle.cu_fuse.specs.Fused.{fused_ops}

@@ -6,7 +6,7 @@ use Rattle.cu_fuse.specs.Close.{fused}
 use Rattle.cu_lower.specs.Plan.{plan_of}
 use Rattle.cu_lower.specs.Premises.{AreOfInputs, IsLowerable}
 use Rattle.cu_lower.specs.declared.options.Options.{Options}
-use Rattle.cu_meaning.specs.Argument.{NodeElements}
+use Rattle.cu_semantics.specs.Argument.{NodeElements}
 use Rattle.cu_node.specs.declared.info.NodeInfo.{NodeInfo}
 use Rattle.cu_op.specs.PlanView.{PlanView}
 use Rattle.cu_op.specs.Elements.{Elements}

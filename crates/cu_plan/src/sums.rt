@@ -1,7 +1,7 @@
 //! Sums and greatest numbers over the operations and the arrays of a plan.
 
-ghost use Rattle.std.specs.Prelude.{◌≡◌, ◌<◌, ◌≤◌, ◌^◌, ◌*◌, All, length, sum_by};
-ghost use Rattle.cu_op.specs.Arrays.{array_at, array_chunk_count};
+ghost use Rattle.std.specs.Prelude.{◌≡◌, ◌<◌, ◌≤◌, ◌^◌, All, length, sum_by};
+ghost use Rattle.cu_op.specs.Arrays.{array_chunk_count};
 ghost use Rattle.cu_op.specs.Cells.{tasks_of};
 ghost use Rattle.cu_op.specs.Operation.{writes_of};
 ghost use Rattle.cu_op.specs.Sound.{made_chunks};

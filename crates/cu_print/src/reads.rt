@@ -1,5 +1,5 @@
 //! Bands that are read from the depot, chunk by chunk.
-ghost use Rattle.std.specs.Prelude.{◌≡◌, ◌≢◌, ℕ, ◌+◌, ◌*◌, ◌<◌, ◌≤◌, List, Option, All, length, max, IfErr, OnOk, OnErr};
+ghost use Rattle.std.specs.Prelude.{◌≡◌, ◌≢◌, ℕ, ◌+◌, ◌*◌, ◌<◌, ◌≤◌, List, All, length, max, IfErr, OnOk, OnErr};
 ghost use Rattle.cu_num.specs.Dtype.{size_of};
 ghost use Rattle.cu_shape.specs.Index.{product, axis_by_axis, quotients, differences};
 ghost use Rattle.cu_grid.specs.Counts.{chunk_lo, IsRegion, IsWithin};

@@ -1,6 +1,6 @@
 //! The product of a matrix by a column of its own type.
 
-ghost use Rattle.std.specs.Prelude.{◌≡◌, ◌*◌, ◌+◌, ◌<◌, ℕ, pos, length};
+ghost use Rattle.std.specs.Prelude.{◌≡◌, ◌*◌, ◌<◌, pos, length};
 ghost use Rattle.cu_num.specs.Dtype.{size_of, IsInteger};
 ghost use Rattle.cu_reduce.specs.Numbers.{HasNumber};
 ghost use Rattle.cu_product.specs.Block.{inner_product};

@@ -1,6 +1,6 @@
 //! The product of two matrices, with loops for each pair of types.
 
-ghost use Rattle.std.specs.Prelude.{◌≡◌, ◌*◌, ◌%◌, ◌+◌, ◌<◌, ◌≤◌, ℕ, true, length};
+ghost use Rattle.std.specs.Prelude.{◌≡◌, ◌*◌, ◌%◌, ◌<◌, ◌≤◌, true, length};
 ghost use Rattle.cu_num.specs.Dtype.{size_of, IsInteger};
 ghost use Rattle.cu_product.specs.Matrices.{HasProducts, numbers};
 

@@ -1,5 +1,4 @@
 //! The rows of inputs and of arrays that are made from nothing.
-ghost use Rattle.std.specs.Prelude.{◌≡◌};
 ghost use Rattle.serde_json.specs.View.{view};
 ghost use Rattle.cu_read.specs.Creation.{input_in, full_in, arange_in, eye_in, creation_row};
 ghost use Rattle.cu_read.specs.Faults.{Gives};

@@ -5,7 +5,7 @@ ghost use Rattle.cu_node.specs.NewShape.{is_size, is_new_size, are_new_sizes};
 ghost use Rattle.cu_form.specs.Form.{is_chunk_size};
 ghost use Rattle.cu_result.specs.Results.{need};
 ghost use Rattle.serde_json.specs.View.{view, items_view};
-ghost use Rattle.cu_read.specs.Lists.{entries_after, entries_of};
+ghost use Rattle.cu_read.specs.Lists.{entries_after};
 ghost use Rattle.cu_read.specs.Faults.{Gives};
 ghost use Rattle.cu_read.specs.Members.{integer_of, integers_of, natural_of, sizes_of, chunk_sizes_of, new_sizes_of, or_null};
 ghost use Rattle.cu_read.specs.Rows.{required, optional};

@@ -1,11 +1,10 @@
 //! The values that a member of a node may have.
-ghost use Rattle.std.specs.Prelude.{◌≡◌, option_map};
-ghost use Rattle.serde_json.specs.Find.{get};
+ghost use Rattle.std.specs.Prelude.{◌≡◌};
 ghost use Rattle.serde_json.specs.View.{view};
 ghost use Rattle.cu_name.specs.Name.{is_name};
 ghost use Rattle.cu_node.specs.NewShape.{is_size};
 ghost use Rattle.cu_form.specs.Form.{is_written, is_chunk_size, is_group_count};
-ghost use Rattle.cu_read.specs.Members.{passing, integer_of, written_of, literal_of, natural_of, dtype_of, name_of, present};
+ghost use Rattle.cu_read.specs.Members.{passing, written_of, literal_of, natural_of, dtype_of, name_of, present};
 
 use cu_form::Literal;
 use cu_name::{IdText, is_name};

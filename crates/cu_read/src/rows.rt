@@ -1,5 +1,5 @@
 //! What the rows of operators are made of: members, of which a wrong one is a fault of the node's form.
-ghost use Rattle.std.specs.Prelude.{◌≡◌, None, false, Ok, option_map};
+ghost use Rattle.std.specs.Prelude.{◌≡◌, None, false};
 ghost use Rattle.std.specs.Result.{result_map_both};
 ghost use Rattle.serde_json.specs.Find.{as_bool, as_array, as_str};
 ghost use Rattle.serde_json.specs.View.{view, items_view};

@@ -1,5 +1,4 @@
 //! The rows of operators that move elements.
-ghost use Rattle.std.specs.Prelude.{◌≡◌};
 ghost use Rattle.serde_json.specs.View.{view};
 ghost use Rattle.cu_read.specs.Faults.{Gives};
 ghost use Rattle.cu_read.specs.View.{triangle_in, index_in, concat_in, stack_in, permute_dims_in, flip_in, roll_in, broadcast_to_in, rechunk_in, view_row};

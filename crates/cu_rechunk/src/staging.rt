@@ -1,7 +1,7 @@
-ghost use Rattle.std.specs.Prelude.{◌≡◌, ◌<◌, ◌≤◌, ◌^◌, ◌*◌, ◌/◌, ◌↔◌, All, IsOk, IfOk, IfErr, length, min};
-ghost use Rattle.cu_shape.specs.Index.{product, axis_by_axis};
+ghost use Rattle.std.specs.Prelude.{◌≡◌, ◌<◌, ◌≤◌, ◌^◌, ◌/◌, ◌↔◌, All, IsOk, IfOk, IfErr, length};
+ghost use Rattle.cu_shape.specs.Index.{product};
 ghost use Rattle.cu_shape.specs.Counts.{at_least_one};
-ghost use Rattle.cu_rechunk.specs.Stages.{cut, greater_bytes, write_sizes, read_sizes, middle_sizes, consolidated};
+ghost use Rattle.cu_rechunk.specs.Stages.{greater_bytes, write_sizes, read_sizes, middle_sizes};
 ghost use Rattle.cu_rechunk.specs.Tiles.{Tiles};
 
 use crate::axes::cut;

@@ -1,6 +1,6 @@
 //! Laws of reductions: calls that do nothing and whose clauses are the laws.
 
-ghost use Rattle.std.specs.Prelude.{◌≡◌, ◌≢◌, ◌↔◌, ◌<◌, ◌++◌, ℕ, suc, ℤ, pos, Bool, List, [], length, map, All, Option, None, Some, if◌then◌else◌};
+ghost use Rattle.std.specs.Prelude.{◌≡◌, ◌↔◌, ◌<◌, ◌++◌, ℕ, ℤ, pos, Bool, List, [], length, map, All, Option, None, Some, if◌then◌else◌};
 ghost use Rattle.cu_num.specs.Wrap.{wrapped};
 ghost use Rattle.cu_num.specs.declared.folds.FoldKind.{FoldKind};
 ghost use Rattle.cu_num.specs.declared.types.Dtype.{Dtype};

@@ -1,5 +1,5 @@
 //! The kind of case that types an expression over its inputs.
-ghost use Rattle.std.specs.Prelude.{◌≤◌, ◌^◌, All, IfOk, OnOk, length};
+ghost use Rattle.std.specs.Prelude.{◌≤◌, All, IfOk, length};
 ghost use Rattle.cu_expr.specs.Premises.{HasGrid, HaveGrids};
 ghost use Rattle.cu_op.specs.Layout.{IsLayout};
 

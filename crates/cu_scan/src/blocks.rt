@@ -1,5 +1,5 @@
 //! Rows and blocks of a region.
-ghost use Rattle.std.specs.Prelude.{◌≡◌, ◌+◌, ◌*◌, ◌≤◌, ◌<◌, ◌+ℤ◌, ℕ, suc, length};
+ghost use Rattle.std.specs.Prelude.{◌≡◌, ◌+◌, ◌*◌, ◌≤◌, ◌<◌, ℕ, suc, length};
 ghost use Rattle.cu_num.specs.Dtype.{size_of, InRange, IsInteger};
 ghost use Rattle.cu_num.specs.Element.{element_at};
 ghost use Rattle.cu_num.specs.declared.layout.Endian.TheVariants.{Little};

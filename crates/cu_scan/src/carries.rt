@@ -1,5 +1,5 @@
 //! What is carried into a place: sums of partial sums.
-ghost use Rattle.std.specs.Prelude.{◌≡◌, ◌+◌, ◌*◌, ◌≤◌, ◌<◌, suc, length};
+ghost use Rattle.std.specs.Prelude.{◌≡◌, ◌+◌, ◌*◌, ◌≤◌, ◌<◌, length};
 ghost use Rattle.cu_num.specs.Dtype.{size_of, IsInteger};
 ghost use Rattle.cu_scan.specs.Scanned.{row_element, IsGiven, AddsRow, KeepsRows, StartsRow, HasTotal, HasTotals};
 

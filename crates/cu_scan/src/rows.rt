@@ -5,7 +5,6 @@ ghost use Rattle.cu_num.specs.Element.{element_at};
 ghost use Rattle.cu_num.specs.declared.layout.Endian.TheVariants.{Little};
 ghost use Rattle.cu_reduce.specs.Numbers.{HasNumber};
 ghost use Rattle.cu_reduce.specs.Prefix.{sum_below};
-ghost use Rattle.cu_scan.specs.Scanned.{given_at, IsGiven};
 
 use crate::steps::put_sum;
 use cu_num::{Dtype, load, save, size};

@@ -1,5 +1,4 @@
-ghost use Rattle.std.specs.Prelude.{◌≡◌, ◌≢◌, ◌<◌, ◌≤◌, ◌^◌, ◌↔◌, ◌≤ℤ◌, ◌<ℤ◌, pos, negsuc, ℕ, IsOk, IfOk, IfErr};
-ghost use Rattle.std.specs.Bool.{OnTrue, OnFalse};
+ghost use Rattle.std.specs.Prelude.{◌≡◌, ◌≢◌, ◌<◌, ◌≤◌, ◌↔◌, ◌≤ℤ◌, pos, ℕ, IsOk, IfOk, IfErr};
 ghost use Rattle.cu_shape.specs.Slice.{count_of, first_of, clipped, start_of, stop_of, lowest, highest, gap_between, from_end, at_least_zero, IsEnd, IsIndex, index_taken};
 
 use crate::fault::ShapeFault;

@@ -1,8 +1,8 @@
 //! How chunks are reached: straight in a depot, or in a yard by a pass.
-ghost use Rattle.std.specs.Prelude.{◌≡◌, List, ℕ, OnOk};
+ghost use Rattle.std.specs.Prelude.{List, ℕ, OnOk};
 ghost use Rattle.cu_store.specs.Held.{Gets, Holds};
 ghost use Rattle.cu_store.specs.Steps.{Shown, NoChange, PutOf, Steps, Caused};
-ghost use Rattle.cu_store.specs.Yard.{is_made, shown_by, MayGet, MayPut};
+ghost use Rattle.cu_store.specs.Yard.{shown_by, MayGet, MayPut};
 ghost use Rattle.cu_store.specs.Chunks.{StaysOpen};
 
 use crate::{Depot, DepotFault, Got, Key, Yard};

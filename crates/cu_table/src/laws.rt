@@ -1,10 +1,9 @@
 //! Laws of the task machine: calls that do nothing and whose clauses are the laws.
-ghost use Rattle.std.specs.Prelude.{◌≡◌, ◌⊎◌, ◌↔◌, ℕ, ◌+◌, ◌*◌, ◌≤◌, ◌++◌, ◌∷◌, [], Bool, true, false, List, length, All, Option, Some, None};
+ghost use Rattle.std.specs.Prelude.{◌≡◌, ◌⊎◌, ◌↔◌, ℕ, ◌+◌, ◌*◌, ◌≤◌, ◌++◌, ◌∷◌, [], Bool, true, false, List, length, All, Some, None};
 ghost use Rattle.cu_store.specs.declared.faults.TaskFault.{TaskFault};
 ghost use Rattle.cu_history.specs.declared.entry.Entry.{Entry};
 ghost use Rattle.cu_history.specs.declared.entry.EventKind.TheVariants.{Start, Done};
 ghost use Rattle.cu_history.specs.History.{is_start, is_done, is_failed, count_kind, count_of_task, has_halt, own};
-ghost use Rattle.cu_op.specs.PlanView.{PlanView};
 ghost use Rattle.cu_op.specs.Sound.{Sound};
 ghost use Rattle.cu_table.specs.declared.claim.Claim.{Claim};
 ghost use Rattle.cu_table.specs.declared.claim.Claim.TheVariants as claim;

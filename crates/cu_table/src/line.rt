@@ -1,5 +1,5 @@
 //! What the end of a copy changes in the counts and in the lists of waiting tasks.
-ghost use Rattle.std.specs.Prelude.{◌≡◌, ◌<◌, ◌≤◌, ℕ, length, set, slice_index_or, false, true, None};
+ghost use Rattle.std.specs.Prelude.{◌≡◌, ◌≤◌, length, set, slice_index_or, false, true, None};
 ghost use Rattle.cu_table.specs.Numbers.{IsTask, task_count, task_number};
 ghost use Rattle.cu_table.specs.Queue.{IsQueue, of_tasks, AreUndone, LeavesAs};
 ghost use Rattle.cu_table.specs.Machine.{no_task};

@@ -1,5 +1,5 @@
 //! What keeps a task waiting.
-ghost use Rattle.std.specs.Prelude.{◌≡◌, ◌≢◌, ◌<◌, ◌≤◌, ◌+◌, ℕ, IsTrue, ◌↔◌, length, MatchOption, slice_index_or};
+ghost use Rattle.std.specs.Prelude.{◌≡◌, ◌≢◌, ◌<◌, IsTrue, ◌↔◌, length, MatchOption, slice_index_or};
 ghost use Rattle.cu_op.specs.Cells.{IsChunk};
 ghost use Rattle.cu_table.specs.declared.state.TaskId.{TaskId as Id};
 ghost use Rattle.cu_table.specs.Numbers.{IsTask, task_count, task_number};

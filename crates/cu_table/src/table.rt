@@ -3,7 +3,7 @@ ghost use Rattle.std.specs.Prelude.{◌≡◌, ◌↔◌, [], length, IsTrue, If
 ghost use Rattle.cu_op.specs.Sound.{Sound};
 ghost use Rattle.cu_table.specs.Numbers.{task_count};
 ghost use Rattle.cu_table.specs.Machine.{RunsNothing, Runs, opening};
-ghost use Rattle.cu_table.specs.Step.{Settings, Replays};
+ghost use Rattle.cu_table.specs.Step.{Replays};
 ghost use Rattle.cu_table.specs.Table.{TableView, IsClaim, IsIdle, claim_of, IsReported, end_of, report_kind, is_late};
 
 use crate::claim::Claim;
@@ -34,7 +34,7 @@ pub struct Table {
 }
 
 impl Model for Table {
-    ghost use Rattle.std.specs.Prelude.{vec_capacity, ◌≡◌, length};
+    ghost use Rattle.std.specs.Prelude.{vec_capacity};
     ghost use Rattle.cu_table.specs.Table.{TableView};
     ghost use Rattle.cu_table.specs.Queue.{IsTable, HasRoom};
 

@@ -1,10 +1,8 @@
 //! The tasks of a plan by their numbers.
-ghost use Rattle.std.specs.Prelude.{◌≡◌, ◌<◌, ◌≤◌, ◌+◌, ◌++◌, ◌∷◌, [], ℕ, length, IfOk, slice_index_or};
-ghost use Rattle.cu_op.specs.Cells.{tasks_of};
+ghost use Rattle.std.specs.Prelude.{◌≡◌, ◌<◌, ◌≤◌, ◌+◌, ◌++◌, IfOk};
 ghost use Rattle.cu_op.specs.PlanView.{PlanView};
-ghost use Rattle.cu_op.specs.Schedule.{op_of};
 ghost use Rattle.cu_op.specs.Sound.{Sound};
-ghost use Rattle.cu_table.specs.Numbers.{IsTask, first_task, task_count, task_number};
+ghost use Rattle.cu_table.specs.Numbers.{IsTask, task_count, task_number};
 ghost use Rattle.cu_table.specs.Queue.{task_ids};
 
 use crate::state::TaskId;

@@ -22,7 +22,7 @@ pub(crate) struct Watchers {
 }
 
 impl Model for Watchers {
-    ghost use Rattle.std.specs.Prelude.{ℕ, List, ◌<◌, length, map, All};
+    ghost use Rattle.std.specs.Prelude.{◌<◌, length, map, All};
     ghost use Rattle.cu_table.specs.Queue.{Lists, chain_of};
 
     ghost Value = { Lists };

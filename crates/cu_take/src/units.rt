@@ -1,5 +1,5 @@
 //! Units written as results.
-ghost use Rattle.std.specs.Prelude.{◌≡◌, ◌+◌, ◌*◌, ◌≤◌, ℕ, length};
+ghost use Rattle.std.specs.Prelude.{◌+◌, ◌*◌, ◌≤◌, ℕ, length};
 ghost use Rattle.cu_num.specs.Dtype.{size_of};
 ghost use Rattle.cu_reduce.specs.Kinds.{unit_of};
 ghost use Rattle.cu_reduce.specs.Numbers.{HasNumber};

@@ -15,7 +15,7 @@ use Rattle.cu_op.specs.declared.layout.ArrayInfo.{ArrayInfo}
 use Rattle.cu_op.specs.declared.operation.Op.{Op}
 use Rattle.cu_op.specs.declared.operation.Op.TheVariants.{Pull, Copy}
 use Rattle.arrayvec.specs.declared.ArrayVec.{ArrayVec}
-use Rattle.cu_pull.specs.declared.pull.Pull.{Pull as View}
+use Rattle.cu_origin.specs.declared.pull.Pull.{Pull as View}
 use Rattle.cu_op.proofs.Operations.{Fit}
 use Rattle.cu_op.proofs.TaskCells.{fit_of}
 use Rattle.cu_task.specs.OfTask.{scratch_bytes, kept_bytes, found_bytes, made_bytes}

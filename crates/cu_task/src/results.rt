@@ -5,7 +5,7 @@ ghost use Rattle.cu_task.specs.Asks.{MayReadRegion, AllowsRegion, AllowsResult};
 ghost use Rattle.cu_store.specs.Steps.{Shown, Steps};
 ghost use Rattle.cu_op.specs.Arrays.{array_at, type_at};
 ghost use Rattle.cu_op.specs.Cells.{task_lo, task_hi};
-ghost use Rattle.cu_op.specs.Operation.{target_of, writes_of, compared_array, value_array};
+ghost use Rattle.cu_op.specs.Operation.{target_of, writes_of, value_array};
 ghost use Rattle.cu_op.specs.Sound.{Sound};
 ghost use Rattle.cu_op.specs.TaskView.{task_op};
 ghost use Rattle.cu_op.specs.Elements.{Elements};

@@ -16,7 +16,7 @@ use arrayvec::ArrayVec;
 use cu_codec::chunk_bytes;
 use cu_grid::Region;
 use cu_op::{ArrayInfo, PlanTask};
-use cu_pull::Pull;
+use cu_origin::Pull;
 use cu_region::read_chunk;
 use cu_shape::{Dims, difference};
 use cu_store::{Chunks, TaskFault};

@@ -7,8 +7,8 @@ use Rattle.cu_store.specs.Steps.{NoChange, Shown, Steps, Within}
 use Rattle.cu_store.proofs.Steps.{steps_none, steps_wider}
 use Rattle.cu_op.specs.PlanView.{PlanView}
 use Rattle.cu_op.specs.Elements.{Elements}
-use Rattle.cu_state.specs.Left.{IsLeft, RunChange}
-use Rattle.cu_state.specs.Pieces.{PlanRun, Text, HoldsPiece}
+use Rattle.cu_run_law.specs.Left.{IsLeft, RunChange}
+use Rattle.cu_run_law.specs.Pieces.{PlanRun, Text, HoldsPiece}
 use Rattle.cu_work.specs.Run.{HoldsTexts, IsRunFault, PutOfText, run_of as work_run, IsRecordFirst as IsTextFirst, IsUnstored as IsTextUnstored}
 use Rattle.cu_work.specs.Shared.{none_done}
 use Rattle.cu_work.specs.declared.run.HeldTexts.TheVariants as given

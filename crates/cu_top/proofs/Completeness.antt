@@ -10,8 +10,8 @@ use Rattle.cu_op.specs.Arrays.{chunk_room, grid_at, maker_at}
 use Rattle.cu_op.specs.Schedule.{op_of, key_of}
 use Rattle.cu_op.proofs.TaskCells.{fit_of, read_array}
 use Rattle.cu_region.specs.Steady.{HoldsLength}
-use Rattle.cu_state.specs.Left.{RunChange}
-use Rattle.cu_state.specs.Pieces.{Chunk, IsInputChunk, IsPiece, piece_key}
+use Rattle.cu_run_law.specs.Left.{RunChange}
+use Rattle.cu_run_law.specs.Pieces.{Chunk, IsInputChunk, IsPiece, piece_key}
 use Rattle.cu_work.specs.Drive.{IsBadChunk, IsInputKey}
 use Rattle.cu_work.specs.Order.{IsFree}
 use Rattle.cu_command.proofs.JobLemmas.{only_memory}

@@ -15,9 +15,9 @@ use Rattle.cu_op.specs.Schedule.{key_of}
 use Rattle.cu_op.specs.Sound.{Sound}
 use Rattle.cu_op.specs.Value.{stored_inputs}
 use Rattle.cu_op.specs.declared.layout.Layout.{Layout}
-use Rattle.cu_state.specs.Left.{IsQuiet}
-use Rattle.cu_state.specs.Names.{HasPlanNames}
-use Rattle.cu_state.specs.Pieces.{Piece, IsPiece, IsInputChunk, piece_key, piece_value}
+use Rattle.cu_run_law.specs.Left.{IsQuiet}
+use Rattle.cu_run_law.specs.Names.{HasPlanNames}
+use Rattle.cu_run_law.specs.Pieces.{Piece, IsPiece, IsInputChunk, piece_key, piece_value}
 use Rattle.cu_expr.specs.Typing.{typed}
 use Rattle.cu_expr.specs.declared.inputs.InputInfo.{InputInfo}
 use Rattle.cu_form.specs.Expression.{Expression}

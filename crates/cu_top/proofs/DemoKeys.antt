@@ -13,9 +13,9 @@ use Rattle.cu_op.specs.Sound.{Sound, IsCell}
 use Rattle.cu_op.specs.Walks.{written_chunks}
 use Rattle.cu_op.proofs.TaskCells.{written_cell}
 use Rattle.cu_lower.proofs.Names.{array_name}
-use Rattle.cu_state.specs.Names.{HasPlanNames}
-use Rattle.cu_state.specs.Pieces.{Piece, Text, Chunk, IsPiece, piece_key}
-use Rattle.cu_state.proofs.PlanNames.{other_names}
+use Rattle.cu_run_law.specs.Names.{HasPlanNames}
+use Rattle.cu_run_law.specs.Pieces.{Piece, Text, Chunk, IsPiece, piece_key}
+use Rattle.cu_run_law.proofs.PlanNames.{other_names}
 use Rattle.cu_work.specs.Order.{plan_keys, operation_keys, task_keys}
 use Rattle.cu_command.specs.declared.job.Job.{Job}
 use Rattle.cu_load.specs.Load.{IsArrayKey}

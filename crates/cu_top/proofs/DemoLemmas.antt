@@ -14,12 +14,12 @@ use Rattle.cu_zarr.specs.Stored.{element_in, stored_element}
 use Rattle.cu_op.specs.Layout.{layout_view}
 use Rattle.cu_op.specs.declared.layout.Layout.{Layout}
 use Rattle.cu_region.specs.Steady.{HoldsLength}
-use Rattle.cu_state.specs.Left.{IsLeft, RunChange}
-use Rattle.cu_state.specs.Pieces.{Text, IsComplete}
-use Rattle.cu_state.proofs.Keeping.{left_kept, piece_stays}
+use Rattle.cu_run_law.specs.Left.{IsLeft, RunChange}
+use Rattle.cu_run_law.specs.Pieces.{Text, IsComplete}
+use Rattle.cu_run_law.proofs.Keeping.{left_kept, piece_stays}
 use Rattle.cu_lower.specs.Parts.{made_layout}
 use Rattle.cu_lower.specs.declared.options.Options.{Options}
-use Rattle.cu_meaning.specs.Argument.{shape_of_node}
+use Rattle.cu_semantics.specs.Argument.{shape_of_node}
 use Rattle.cu_command.specs.Job.{IsJob}
 use Rattle.cu_command.specs.Seen.{Seen, Stepped, WroteNothing, seen, stream}
 use Rattle.cu_command.specs.declared.job.Job.{Job}

@@ -14,7 +14,7 @@ use Rattle.cu_demo.specs.Expression.{IsDemoJob}
 use Rattle.cu_demo.specs.Input.{demo_name}
 use Rattle.cu_demo.specs.declared.input.DemoInput.TheVariants.{Rows, Columns}
 use Rattle.cu_lower.specs.declared.options.Options.{Options}
-use Rattle.cu_state.specs.Left.{RunChange}
+use Rattle.cu_run_law.specs.Left.{RunChange}
 use Rattle.cu_top.proofs.Completeness.{key_before, lands_told, none_or_some, none_rose}
 use Rattle.cu_top.specs.Complete.{IsServed}
 use Rattle.cu_top.specs.Demo.{DemoCase, DemoTells, IsDemoAskedKey, IsDemoAtRest, IsDemoKey, IsDemoStarted, IsDemoStopped, IsDemoUnread, InputsPut, array_keys, demo_run}

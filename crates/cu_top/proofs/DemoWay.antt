@@ -12,7 +12,7 @@ use Rattle.cu_demo.specs.declared.input.DemoInput.TheVariants.{Rows, Columns}
 use Rattle.cu_lower.specs.declared.options.Options.{Options}
 use Rattle.cu_form.specs.Expression.{Expression}
 use Rattle.cu_read.specs.Read.{expression_of}
-use Rattle.cu_state.specs.Left.{RunChange}
+use Rattle.cu_run_law.specs.Left.{RunChange}
 use Rattle.cu_top.proofs.DemoFound.{DemoLaws, ReadBack, found_calm, found_cleared, found_of, found_whole, is_found, ok_expression, still_inputs}
 use Rattle.cu_top.proofs.DemoKeys.{is_inputs, piece_apart}
 use Rattle.cu_top.proofs.DemoLemmas.{WholeLaw, run_to}

@@ -12,11 +12,11 @@ use Rattle.cu_history.specs.declared.entry.Entry.{Entry}
 use Rattle.cu_history.specs.declared.entry.EventKind.{EventKind}
 use Rattle.cu_history.specs.History.{is_start, is_done, is_failed, count_kind, count_of_task}
 use Rattle.cu_lower.specs.Premises.{OutputDiffers}
-use Rattle.cu_state.specs.Left.{IsQuiet, IsLeft, RunChange}
-use Rattle.cu_state.specs.Names.{HasPlanNames}
-use Rattle.cu_state.specs.Pieces.{PlanRun, Piece, IsPiece, piece_key, KeysApart, InputsApart, IsComplete}
-use Rattle.cu_state.proofs.Keeping.{left_kept, begun_since}
-use Rattle.cu_state.proofs.PlanNames.{keys_apart, inputs_apart}
+use Rattle.cu_run_law.specs.Left.{IsQuiet, IsLeft, RunChange}
+use Rattle.cu_run_law.specs.Names.{HasPlanNames}
+use Rattle.cu_run_law.specs.Pieces.{PlanRun, Piece, IsPiece, piece_key, KeysApart, InputsApart, IsComplete}
+use Rattle.cu_run_law.proofs.Keeping.{left_kept, begun_since}
+use Rattle.cu_run_law.proofs.PlanNames.{keys_apart, inputs_apart}
 use Rattle.cu_store.proofs.Steps.{steps_none, steps_wider}
 use Rattle.cu_table.specs.declared.state.Ending.TheVariants.{Broken}
 use Rattle.cu_table.specs.Machine.{Machine}

@@ -9,8 +9,8 @@ use Rattle.cu_name.specs.Keys.{record_key_of}
 use Rattle.cu_op.specs.PlanView.{PlanView}
 use Rattle.cu_op.specs.Sound.{Sound}
 use Rattle.cu_op.specs.Elements.{Elements}
-use Rattle.cu_state.specs.Left.{IsLeft}
-use Rattle.cu_state.specs.Pieces.{PlanRun, Piece, Text, Chunk, IsPiece, piece_key}
+use Rattle.cu_run_law.specs.Left.{IsLeft}
+use Rattle.cu_run_law.specs.Pieces.{PlanRun, Piece, Text, Chunk, IsPiece, piece_key}
 use Rattle.cu_work.specs.Commands.{CommandChange}
 use Rattle.cu_work.specs.Order.{plan_keys}
 use Rattle.cu_work.specs.Removal.{RemovalIn, IsGoneBut, AreRemoved, keys_before_record, removed_keys}

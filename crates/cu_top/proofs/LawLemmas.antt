@@ -2,9 +2,9 @@
 use Rattle.std.proofs.Common.{inl, inr, Bool, ℕ, arith}
 use Rattle.cu_store.specs.Steps.{Shown}
 use Rattle.cu_store.proofs.Steps.{steps_wider}
-use Rattle.cu_state.specs.Left.{RunChange}
-use Rattle.cu_state.specs.Pieces.{PlanRun}
-use Rattle.cu_state.proofs.Keeping.{change_alone}
+use Rattle.cu_run_law.specs.Left.{RunChange}
+use Rattle.cu_run_law.specs.Pieces.{PlanRun}
+use Rattle.cu_run_law.proofs.Keeping.{change_alone}
 use Rattle.cu_work.specs.declared.part.Part.{Part}
 use Rattle.cu_work.specs.Commands.{CommandChange, IsCommand}
 use Rattle.cu_command.specs.Seen.{Stepped}

@@ -9,9 +9,9 @@ use Rattle.cu_name.specs.Keys.{record_key_of}
 use Rattle.cu_op.specs.PlanView.{PlanView}
 use Rattle.cu_op.specs.Sound.{Sound}
 use Rattle.cu_op.specs.Elements.{Elements}
-use Rattle.cu_state.specs.Left.{IsLeft, RunChange}
-use Rattle.cu_state.specs.Pieces.{Text, HoldsPiece, chunks_alone}
-use Rattle.cu_state.proofs.Keeping.{begun_since, change_alone, left_kept, piece_stays}
+use Rattle.cu_run_law.specs.Left.{IsLeft, RunChange}
+use Rattle.cu_run_law.specs.Pieces.{Text, HoldsPiece, chunks_alone}
+use Rattle.cu_run_law.proofs.Keeping.{begun_since, change_alone, left_kept, piece_stays}
 use Rattle.cu_work.specs.Asked.{Search, search_of, AreChosen, IsSoughtInput, IsUnstarted, own_chunks}
 use Rattle.cu_work.specs.Ended.{HasCalled, IsPartDone, IsPartEnd, IsPartFault, count_of}
 use Rattle.cu_work.specs.Part.{IsPartOf, LacksChunk, PartPut}

@@ -11,8 +11,8 @@ use Rattle.cu_expr.specs.declared.inputs.InputInfo.{InputInfo}
 use Rattle.cu_form.specs.Expression.{Expression}
 use Rattle.cu_form.specs.declared.expr.Node.{Node}
 use Rattle.cu_form.specs.declared.form.Form.{Form}
-use Rattle.cu_meaning.specs.Argument.{NodeElements, shape_of_node}
-use Rattle.cu_meaning.specs.Meaning.{meaning_of}
+use Rattle.cu_semantics.specs.Argument.{NodeElements, shape_of_node}
+use Rattle.cu_semantics.specs.Meaning.{meaning_of}
 use Rattle.cu_node.specs.declared.info.NodeInfo.{NodeInfo}
 use Rattle.cu_lower.specs.Inputs.{input_array, input_place}
 use Rattle.cu_lower.specs.Premises.{IsLowerable, IsLiveInput, IsOutput, OutputDiffers}
@@ -30,8 +30,8 @@ use Rattle.cu_op.specs.Elements.{Elements}
 use Rattle.cu_op.specs.Value.{plan_value, stored_inputs}
 use Rattle.cu_op.proofs.Plans.{grid_ok}
 use Rattle.cu_op.proofs.Spellings.{defined_at}
-use Rattle.cu_state.specs.Left.{IsLeft}
-use Rattle.cu_state.specs.Pieces.{PlanRun, Chunk, IsComplete}
+use Rattle.cu_run_law.specs.Left.{IsLeft}
+use Rattle.cu_run_law.specs.Pieces.{PlanRun, Chunk, IsComplete}
 use Rattle.cu_store.specs.Held.{Contents}
 use Rattle.cu_store.specs.Steps.{Shown}
 use Rattle.cu_zarr.specs.Stored.{stored_element}

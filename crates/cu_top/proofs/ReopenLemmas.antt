@@ -14,9 +14,9 @@ use Rattle.cu_op.specs.declared.cells.Cell.{Cell}
 use Rattle.cu_op.specs.Elements.{Elements}
 use Rattle.cu_history.specs.declared.entry.Entry.{Entry}
 use Rattle.cu_history.specs.History.{is_start, count_of_task}
-use Rattle.cu_state.specs.Left.{IsLeft, RunChange}
-use Rattle.cu_state.specs.Pieces.{PlanRun, Text, piece_key, text_at, HoldsPiece}
-use Rattle.cu_state.proofs.Keeping.{begun_since, piece_stays}
+use Rattle.cu_run_law.specs.Left.{IsLeft, RunChange}
+use Rattle.cu_run_law.specs.Pieces.{PlanRun, Text, piece_key, text_at, HoldsPiece}
+use Rattle.cu_run_law.proofs.Keeping.{begun_since, piece_stays}
 use Rattle.cu_table.specs.declared.state.Ending.TheVariants.{Broken}
 use Rattle.cu_table.specs.Machine.{Machine, IsDone, opening, state_at}
 use Rattle.cu_table.specs.Numbers.{IsTask, task_count}

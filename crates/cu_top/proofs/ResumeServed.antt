@@ -14,9 +14,9 @@ use Rattle.cu_op.specs.Schedule.{op_of, key_of}
 use Rattle.cu_op.specs.Sound.{Sound}
 use Rattle.cu_op.proofs.TaskCells.{fit_of, read_array}
 use Rattle.cu_region.specs.Steady.{HoldsLength}
-use Rattle.cu_state.specs.Left.{RunChange}
-use Rattle.cu_state.specs.Pieces.{Text, Chunk, IsInputChunk, IsPiece, KeysApart}
-use Rattle.cu_state.proofs.Keeping.{left_kept}
+use Rattle.cu_run_law.specs.Left.{RunChange}
+use Rattle.cu_run_law.specs.Pieces.{Text, Chunk, IsInputChunk, IsPiece, KeysApart}
+use Rattle.cu_run_law.proofs.Keeping.{left_kept}
 use Rattle.cu_work.specs.Drive.{IsBadChunk, IsInputKey}
 use Rattle.cu_command.proofs.JobLemmas.{only_memory}
 use Rattle.cu_command.specs.Inputs.{IsReadAt, IsRefusedAt, IsTurn}

@@ -17,8 +17,8 @@ use Rattle.cu_op.specs.Sound.{Sound}
 use Rattle.cu_op.specs.Elements.{Elements}
 use Rattle.cu_op.specs.Walks.{written_chunks}
 use Rattle.cu_op.proofs.TaskCells.{some_task}
-use Rattle.cu_state.specs.Left.{IsLeft, RunChange}
-use Rattle.cu_state.specs.Pieces.{Piece, Text, Chunk, IsPiece, piece_key, KeysApart}
+use Rattle.cu_run_law.specs.Left.{IsLeft, RunChange}
+use Rattle.cu_run_law.specs.Pieces.{Piece, Text, Chunk, IsPiece, piece_key, KeysApart}
 use Rattle.cu_table.specs.Machine.{opening}
 use Rattle.cu_table.specs.Table.{TableView, undone_among}
 use Rattle.cu_work.specs.Order.{IsFree, IsFirst, plan_keys, operation_keys, task_keys}

@@ -37,7 +37,7 @@ use Rattle.cu_command.specs.Job.{IsJob, IsTypable}
 use Rattle.cu_command.specs.Stored.{StoresLayout}
 use Rattle.cu_command.specs.declared.job.Job.{Job}
 use Rattle.cu_lower.specs.Parts.{made_layout}
-use Rattle.cu_state.specs.Pieces.{IsInputChunk}
+use Rattle.cu_run_law.specs.Pieces.{IsInputChunk}
 use Rattle.cu_work.specs.Order.{IsFree, plan_keys}
 use Rattle.cu_top.specs.Complete.{AreWhole, IsAtRest, IsPlannable, IsServable}
 use Rattle.cu_top.specs.Prepare.{asked_keys, is_own_input, job_plan}

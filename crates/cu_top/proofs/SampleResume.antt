@@ -25,11 +25,11 @@ use Rattle.cu_op.specs.Elements.{Elements}
 use Rattle.cu_op.specs.Value.{stored_inputs}
 use Rattle.cu_plan.specs.Plan.{merged_plan_of}
 use Rattle.cu_read.specs.Read.{compact_of}
-use Rattle.cu_state.proofs.Keeping.{left_kept}
-use Rattle.cu_state.proofs.PlanNames.{keys_apart}
-use Rattle.cu_state.specs.Left.{IsLeft}
-use Rattle.cu_state.specs.Names.{HasPlanNames}
-use Rattle.cu_state.specs.Pieces.{KeysApart, Piece, PieceChange, PlanRun, Text, IsPiece, piece_key}
+use Rattle.cu_run_law.proofs.Keeping.{left_kept}
+use Rattle.cu_run_law.proofs.PlanNames.{keys_apart}
+use Rattle.cu_run_law.specs.Left.{IsLeft}
+use Rattle.cu_run_law.specs.Names.{HasPlanNames}
+use Rattle.cu_run_law.specs.Pieces.{KeysApart, Piece, PieceChange, PlanRun, Text, IsPiece, piece_key}
 use Rattle.cu_store.specs.Held.{Contents}
 use Rattle.cu_store.specs.Steps.{OrLate, Steps}
 use Rattle.cu_work.proofs.Running.{left_stored}

@@ -16,7 +16,7 @@ use Rattle.cu_node.specs.declared.info.NodeInfo.{NodeInfo}
 use Rattle.cu_op.specs.Layout.{layout_view}
 use Rattle.cu_plan.specs.Plan.{merged_plan_of}
 use Rattle.cu_read.specs.Read.{expression_of}
-use Rattle.cu_state.specs.Pieces.{PlanRun}
+use Rattle.cu_run_law.specs.Pieces.{PlanRun}
 use Rattle.cu_store.specs.Held.{Contents}
 use Rattle.cu_store.specs.Steps.{Shown}
 use Rattle.cu_zarr.specs.Metadata.{metadata_text}

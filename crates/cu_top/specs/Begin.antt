@@ -2,7 +2,7 @@
 -- project's own rules.
 use Rattle.std.specs.Prelude.{◌≡◌, ◌⊎◌, ℕ, ◌+◌, ◌*◌, ◌≤◌, List, length, Result, Ok, Err}
 use Rattle.cu_store.specs.Faults.{Rose}
-use Rattle.cu_state.specs.Pieces.{Text, HoldsPiece}
+use Rattle.cu_run_law.specs.Pieces.{Text, HoldsPiece}
 use Rattle.cu_name.specs.Keys.{record_key_of}
 use Rattle.cu_zarr.specs.Key.{metadata_key_of}
 use Rattle.cu_command.specs.Seen.{Stepped, WithinCalls}

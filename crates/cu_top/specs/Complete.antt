@@ -9,8 +9,8 @@ use Rattle.cu_op.specs.PlanView.{PlanView}
 use Rattle.cu_op.specs.Schedule.{key_of}
 use Rattle.cu_op.specs.Value.{stored_inputs}
 use Rattle.cu_name.specs.Keys.{record_key_of}
-use Rattle.cu_state.specs.Left.{IsLeft}
-use Rattle.cu_state.specs.Pieces.{IsInputChunk}
+use Rattle.cu_run_law.specs.Left.{IsLeft}
+use Rattle.cu_run_law.specs.Pieces.{IsInputChunk}
 use Rattle.cu_work.specs.Drive.{IsInputKey}
 use Rattle.cu_work.specs.Order.{IsFree}
 use Rattle.cu_command.specs.Job.{IsJob, IsTypable}

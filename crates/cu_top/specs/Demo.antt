@@ -12,7 +12,7 @@ use Rattle.cu_zarr.specs.Stored.{stored_element}
 use Rattle.cu_op.specs.Layout.{layout_view}
 use Rattle.cu_op.specs.Value.{stored_inputs}
 use Rattle.cu_op.specs.declared.layout.Layout.{Layout}
-use Rattle.cu_state.specs.Left.{IsQuiet}
+use Rattle.cu_run_law.specs.Left.{IsQuiet}
 use Rattle.cu_lower.specs.Parts.{made_layout}
 use Rattle.cu_lower.specs.declared.options.Options.{Options}
 use Rattle.cu_plan.specs.Refusal.{refusal_of}

@@ -8,8 +8,8 @@ use Rattle.cu_op.specs.Elements.{Elements}
 use Rattle.cu_history.specs.History.{is_start, is_failed, count_kind}
 use Rattle.cu_history.specs.declared.entry.Entry.{Entry}
 use Rattle.cu_lower.specs.declared.options.Options.{Options}
-use Rattle.cu_state.specs.Left.{IsLeft, RunChange}
-use Rattle.cu_state.specs.Pieces.{PlanRun, text_at, IsComplete}
+use Rattle.cu_run_law.specs.Left.{IsLeft, RunChange}
+use Rattle.cu_run_law.specs.Pieces.{PlanRun, text_at, IsComplete}
 use Rattle.cu_table.specs.Table.{TableView}
 use Rattle.cu_work.specs.Drive.{IsBadChunk, IsInputKey}
 use Rattle.cu_work.specs.Run.{IsRecordFirst, IsUnstored, HoldsTexts}

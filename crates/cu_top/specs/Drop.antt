@@ -6,7 +6,7 @@ use Rattle.cu_zarr.specs.Key.{metadata_key_of}
 use Rattle.cu_name.specs.Keys.{record_key_of}
 use Rattle.cu_op.specs.PlanView.{PlanView}
 use Rattle.cu_op.specs.Sound.{made_chunks}
-use Rattle.cu_state.specs.Left.{IsLeft}
+use Rattle.cu_run_law.specs.Left.{IsLeft}
 use Rattle.cu_work.specs.Removal.{RemovalIn, IsGoneBut, keys_before_record, removed_keys}
 use Rattle.cu_work.specs.declared.removal.RemoveFault.{RemoveFault}
 use Rattle.cu_work.specs.declared.removal.RemoveFault.TheVariants as remove

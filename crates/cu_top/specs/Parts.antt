@@ -6,8 +6,8 @@ use Rattle.cu_store.specs.Faults.{Rose}
 use Rattle.cu_op.specs.Cells.{tasks_of}
 use Rattle.cu_op.specs.PlanView.{PlanView, operation_at}
 use Rattle.cu_op.specs.Schedule.{op_of}
-use Rattle.cu_state.specs.Left.{IsLeft}
-use Rattle.cu_state.specs.Pieces.{Text, HoldsPiece}
+use Rattle.cu_run_law.specs.Left.{IsLeft}
+use Rattle.cu_run_law.specs.Pieces.{Text, HoldsPiece}
 use Rattle.cu_work.specs.Asked.{Search, search_of, AllDiffer, IsChosenAt, IsSoughtInput, IsUnstarted, own_chunks}
 use Rattle.cu_work.specs.Ended.{IsPartDone, IsPartFault, count_of}
 use Rattle.cu_work.specs.Part.{IsPartOf, LacksChunk, PartPut}

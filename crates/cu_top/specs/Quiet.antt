@@ -5,8 +5,8 @@ use Rattle.cu_store.specs.Steps.{Shown}
 use Rattle.cu_op.specs.Value.{stored_inputs}
 use Rattle.cu_lower.specs.Premises.{expression_run as plan_run}
 use Rattle.cu_lower.specs.declared.options.Options.{Options}
-use Rattle.cu_state.specs.Left.{IsQuiet}
-use Rattle.cu_state.specs.Pieces.{PlanRun}
+use Rattle.cu_run_law.specs.Left.{IsQuiet}
+use Rattle.cu_run_law.specs.Pieces.{PlanRun}
 use Rattle.cu_command.specs.Job.{IsJob}
 use Rattle.cu_command.specs.declared.job.Job.{Job}
 use Rattle.cu_top.specs.Prepare.{job_plan, out_metadata, HasPlan}

@@ -11,8 +11,8 @@ use Rattle.cu_op.specs.Walks.{written_chunks}
 use Rattle.cu_op.specs.declared.cells.Cell.{Cell}
 use Rattle.cu_history.specs.History.{is_start, count_of_task}
 use Rattle.cu_history.specs.declared.entry.Entry.{Entry}
-use Rattle.cu_state.specs.Left.{IsLeft, RunChange}
-use Rattle.cu_state.specs.Pieces.{Text, HoldsPiece}
+use Rattle.cu_run_law.specs.Left.{IsLeft, RunChange}
+use Rattle.cu_run_law.specs.Pieces.{Text, HoldsPiece}
 use Rattle.cu_table.specs.Machine.{Machine, AllDone, opening}
 use Rattle.cu_table.specs.Numbers.{IsTask, task_count}
 use Rattle.cu_table.specs.Table.{undone_among}

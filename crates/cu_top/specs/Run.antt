@@ -16,11 +16,11 @@ use Rattle.cu_op.specs.Sound.{Sound}
 use Rattle.cu_op.specs.Elements.{Elements}
 use Rattle.cu_op.specs.Value.{stored_inputs}
 use Rattle.cu_op.specs.Walks.{written_chunks}
-use Rattle.cu_meaning.specs.Argument.{shape_of_node}
-use Rattle.cu_meaning.specs.Meaning.{meaning_of}
+use Rattle.cu_semantics.specs.Argument.{shape_of_node}
+use Rattle.cu_semantics.specs.Meaning.{meaning_of}
 use Rattle.cu_lower.specs.declared.options.Options.{Options}
-use Rattle.cu_state.specs.Pieces.{PlanRun, Text, KeysApart, HoldsPiece, IsComplete}
-use Rattle.cu_state.specs.Left.{IsQuiet, IsLeft, RunChange}
+use Rattle.cu_run_law.specs.Pieces.{PlanRun, Text, KeysApart, HoldsPiece, IsComplete}
+use Rattle.cu_run_law.specs.Left.{IsQuiet, IsLeft, RunChange}
 use Rattle.cu_history.specs.History.{is_start, is_done, is_failed, count_kind, count_of_task}
 use Rattle.cu_history.specs.declared.entry.Entry.{Entry}
 use Rattle.cu_table.specs.declared.state.Ending.TheVariants.{Broken}

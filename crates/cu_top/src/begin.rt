@@ -1,5 +1,5 @@
 //! The command that begins a run, whose tasks other processes run.
-ghost use Rattle.std.specs.Prelude.{◌≡◌, ◌+◌, ◌*◌, ℕ, List, IfErr, OnOk};
+ghost use Rattle.std.specs.Prelude.{◌≡◌, ◌+◌, ◌*◌, ℕ, List, IfErr};
 ghost use Rattle.cu_store.specs.Steps.{Shown};
 ghost use Rattle.cu_command.specs.Seen.{Stream, WithinCalls, stream};
 ghost use Rattle.cu_top.specs.Begin.{BeginWithin, IsTextsAnswer, TextsEnded, WasBegun, text_answer};
@@ -14,7 +14,7 @@ use crate::prepare::prepare;
 use cu_command::{Status, write_all};
 use cu_lower::Options;
 use cu_plan::{begun_text, merged_plan_law};
-use cu_state::{complete_law, left_law};
+use cu_run_law::{complete_law, left_law};
 use cu_store::{Depot, Sink};
 use cu_work::{RunFault, Texts, store_texts};
 use std::alloc::Global;

@@ -1,12 +1,12 @@
 //! The tasks of an accepted plan: the texts in front of its chunks, their run, and what it answers.
-ghost use Rattle.std.specs.Prelude.{◌≡◌, ◌<◌, IfErr, IfOk, Some, false};
+ghost use Rattle.std.specs.Prelude.{◌≡◌, ◌<◌, IfErr, IfOk, Some};
 ghost use Rattle.cu_store.specs.Held.{Contents};
-ghost use Rattle.cu_state.specs.Pieces.{KeysApart, InputsApart};
+ghost use Rattle.cu_run_law.specs.Pieces.{KeysApart, InputsApart};
 ghost use Rattle.cu_work.specs.Shared.{IsOpen, IsMemoryFor};
 ghost use Rattle.cu_work.specs.World.{IsFound};
 ghost use Rattle.cu_command.specs.declared.status.Status.TheVariants.{Done};
 ghost use Rattle.cu_top.specs.Calls.{DriveWithin};
-ghost use Rattle.cu_top.specs.Driven.{AreHeld, HasPlanAndTexts, WasDriven, run_counts_in, drive_answer};
+ghost use Rattle.cu_top.specs.Driven.{AreHeld, HasPlanAndTexts, WasDriven, drive_answer};
 ghost use Rattle.cu_top.specs.Driven.{drive_case, fault_answer, outcome_answer, run_options};
 ghost use Rattle.cu_top.specs.Prepare.{job_plan, HasPlan};
 ghost use Rattle.cu_top.specs.Quiet.{run_of_job};

@@ -14,7 +14,7 @@ use cu_command::{LineText, Status, push_field, write_all};
 use cu_lower::Options;
 use cu_op::Plan;
 use cu_plan::{cell_count, merged_plan_law};
-use cu_state::{complete_law, left_law};
+use cu_run_law::{complete_law, left_law};
 use cu_store::{Depot, Failed, Sink};
 use cu_work::{RemoveFault, commands_law, remove_plan};
 use std::alloc::Global;

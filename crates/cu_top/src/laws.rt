@@ -2,10 +2,9 @@
 ghost use Rattle.std.specs.Prelude.{◌≡◌, ◌∷◌, [], ℕ, Bool, List, All, Some, Ok, codes};
 ghost use Rattle.cu_store.specs.Steps.{Shown};
 ghost use Rattle.cu_op.specs.Elements.{Elements};
-ghost use Rattle.cu_state.specs.Left.{IsLeft};
-ghost use Rattle.cu_state.specs.Pieces.{PlanRun};
+ghost use Rattle.cu_run_law.specs.Left.{IsLeft};
+ghost use Rattle.cu_run_law.specs.Pieces.{PlanRun};
 ghost use Rattle.cu_work.specs.Commands.{AreCommands, IsCommand};
-ghost use Rattle.cu_command.specs.declared.job.Job.{Job};
 ghost use Rattle.cu_command.specs.declared.status.Status.{Status};
 ghost use Rattle.cu_region.specs.Steady.{IsSteady};
 ghost use Rattle.cu_check.specs.Arrays.{IsReadChunk};
@@ -19,14 +18,14 @@ ghost use Rattle.cu_top.specs.Drop.{Dropped};
 ghost use Rattle.cu_top.specs.Laws.{IsOfPlan};
 ghost use Rattle.cu_top.specs.Parts.{WasParted};
 ghost use Rattle.cu_top.specs.Resume.{WasResumed};
-ghost use Rattle.cu_top.specs.Run.{RunCase, job_run, IsSpared, Ran};
+ghost use Rattle.cu_top.specs.Run.{RunCase, IsSpared, Ran};
 ghost use Rattle.cu_top.specs.Sample.{demo_options, empty_held, empty_shown, left_held, left_shown};
 ghost use Rattle.cu_top.specs.Sample.{sample_array, sample_resume};
 ghost use Rattle.cu_top.specs.Sample.{sample_held, sample_input, sample_late, sample_layout, sample_options, sample_plan, sample_run, sample_shown, sample_text};
 ghost use Rattle.cu_top.specs.Words.{command_of, plan, resume, run};
 
 use cu_plan::merged_plan_law;
-use cu_state::left_law;
+use cu_run_law::left_law;
 use cu_work::commands_law;
 
 /// Whatever `run`, `begin`, `part`, `resume` and `drop` answer, each is a command of the plan of the

@@ -15,7 +15,7 @@ use cu_command::{LineText, Status, push_field, write_all};
 use cu_lower::Options;
 use cu_op::{Plan, tasks};
 use cu_plan::merged_plan_law;
-use cu_state::{complete_law, left_law};
+use cu_run_law::{complete_law, left_law};
 use cu_store::{Depot, Failed, Sink};
 use cu_work::{Part, PartCounts, PartFault, run_part};
 use std::alloc::Global;

@@ -25,7 +25,7 @@ use crate::report::{RunCounts, report};
 use cu_command::{Status, ask_key};
 use cu_lower::Options;
 use cu_plan::merged_plan_law;
-use cu_state::{complete_law, left_law};
+use cu_run_law::{complete_law, left_law};
 use cu_store::{Depot, Gate, Share, Sink};
 use cu_table::{broken_law, done_law};
 use cu_work::{FindFault, HeldTexts, RunMemory, find_done, resume_law};

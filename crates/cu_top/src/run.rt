@@ -1,5 +1,5 @@
 //! A run: what is stored, once the job was accepted and nothing is in the way.
-ghost use Rattle.std.specs.Prelude.{◌≡◌, ℕ, List, IfErr, IfOk};
+ghost use Rattle.std.specs.Prelude.{ℕ, List, IfErr, IfOk};
 ghost use Rattle.cu_store.specs.Steps.{Shown};
 ghost use Rattle.cu_command.specs.Seen.{Stream, stream};
 ghost use Rattle.cu_command.specs.declared.status.Status.TheVariants.{Done};
@@ -17,7 +17,7 @@ use crate::report::{RunCounts, report};
 use cu_command::Status;
 use cu_lower::Options;
 use cu_plan::merged_plan_law;
-use cu_state::{complete_law, left_law};
+use cu_run_law::{complete_law, left_law};
 use cu_store::{Gate, Share, Sink};
 use cu_table::{broken_law, count_law};
 use cu_work::{HeldTexts, RunMemory, none_done};

@@ -4,7 +4,7 @@ use Rattle.std.specs.Int.{bit_at}
 use Rattle.std.proofs.lemmas.Nat.Bits.{bit_at_lowest, bit_at-suc, bit_at-zero, bit_at-pow_same, bit_at-pow_other, bit_at_ones}
 use Rattle.std.proofs.lemmas.Bool.Decides.{eqb_tells}
 use Rattle.cu_reduce.specs.Places.{is_sought}
-use Rattle.cu_pull.specs.Pull.{has_axis}
+use Rattle.cu_origin.specs.Pull.{has_axis}
 use Rattle.cu_tree.specs.Marks.{bits_of, marked_axes, sought_axes}
 
 lowest : (m : Bool) (n : ℕ) → ((if m then 1 else 0) + 2 * n) % 2 == 1 ≡ m

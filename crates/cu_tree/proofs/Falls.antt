@@ -10,8 +10,8 @@ use Rattle.std.proofs.lemmas.Bool.Decides.{leb_tells}
 use Rattle.cu_shape.specs.Index.{product}
 use Rattle.cu_shape.specs.Counts.{at_least_one}
 use Rattle.cu_shape.proofs.Rounded.{before_end}
-use Rattle.cu_pull.specs.Pull.{has_axis}
-use Rattle.cu_pull.specs.declared.axes.Axes.{Axes}
+use Rattle.cu_origin.specs.Pull.{has_axis}
+use Rattle.cu_origin.specs.declared.axes.Axes.{Axes}
 use Rattle.cu_tree.specs.Rounds.{merge_round, axis_rounds, merged_on, rounds_from}
 use Rattle.cu_tree.specs.declared.round.Round.{Round}
 

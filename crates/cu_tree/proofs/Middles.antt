@@ -13,8 +13,8 @@ use Rattle.cu_shape.specs.Index.{product}
 use Rattle.cu_shape.proofs.Axes.{length-axis_by_axis, get_or-axis_by_axis}
 use Rattle.cu_shape.proofs.Rounded.{counts_below}
 use Rattle.cu_grid.proofs.Covers.{product_most}
-use Rattle.cu_pull.specs.Pull.{has_axis}
-use Rattle.cu_pull.specs.declared.axes.Axes.{Axes}
+use Rattle.cu_origin.specs.Pull.{has_axis}
+use Rattle.cu_origin.specs.declared.axes.Axes.{Axes}
 use Rattle.cu_node.specs.Info.{IsInfo}
 use Rattle.cu_node.specs.declared.info.NodeInfo.{NodeInfo}
 use Rattle.cu_tree.specs.Partials.{partial_chunk_from, first_partial, inner_count, product_partial, merged, arrays_written, partials_before, IsMiddle}

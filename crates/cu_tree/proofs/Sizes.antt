@@ -12,8 +12,8 @@ use Rattle.cu_shape.proofs.Axes.{length-axis_by_axis, get_or-axis_by_axis}
 use Rattle.cu_shape.proofs.Products.{size_within}
 use Rattle.cu_shape.proofs.Rounded.{counts_below, within_counts, before_end}
 use Rattle.cu_reduce.specs.Groups.{groups_from, group_counts}
-use Rattle.cu_pull.specs.Pull.{has_axis}
-use Rattle.cu_pull.specs.declared.axes.Axes.{Axes}
+use Rattle.cu_origin.specs.Pull.{has_axis}
+use Rattle.cu_origin.specs.declared.axes.Axes.{Axes}
 use Rattle.cu_node.specs.Info.{IsInfo}
 use Rattle.cu_node.specs.declared.info.NodeInfo.{NodeInfo}
 use Rattle.cu_tree.specs.Partials.{partial_size, partial_chunk_from}

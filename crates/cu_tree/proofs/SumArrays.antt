@@ -11,8 +11,8 @@ use Rattle.cu_shape.specs.Index.{product}
 use Rattle.cu_shape.proofs.Axes.{length-axis_by_axis}
 use Rattle.cu_shape.proofs.Products.{product_within, size_within}
 use Rattle.cu_shape.proofs.Rounded.{counts_below}
-use Rattle.cu_pull.specs.Pull.{has_axis}
-use Rattle.cu_pull.specs.declared.axes.Axes.{Axes}
+use Rattle.cu_origin.specs.Pull.{has_axis}
+use Rattle.cu_origin.specs.declared.axes.Axes.{Axes}
 use Rattle.cu_node.specs.declared.info.NodeInfo.{NodeInfo}
 use Rattle.cu_tree.specs.Marks.{sought_axes}
 use Rattle.cu_tree.specs.Partials.{partial_chunk_from, merged, chunks_of, IsMiddle}

@@ -1,6 +1,6 @@
 -- Sets of axes, as operations have them.
 use Rattle.std.specs.Prelude.{ℕ, ◌+◌, ◌*◌, ◌^◌, Bool, List, [], ◌∷◌, Option, Some, None, if◌then◌else◌}
-use Rattle.cu_pull.specs.declared.axes.Axes.{Axes}
+use Rattle.cu_origin.specs.declared.axes.Axes.{Axes}
 
 -- the number whose bits are these marks, the lowest first
 abbrev pub bits_of : List Bool → ℕ

@@ -8,8 +8,8 @@ use Rattle.cu_shape.specs.Counts.{counts_of, at_least_one}
 use Rattle.cu_shape.specs.Index.{product}
 use Rattle.cu_reduce.specs.Groups.{groups_of, group_counts}
 use Rattle.cu_grid.specs.Grid.{IsGrid}
-use Rattle.cu_pull.specs.Pull.{has_axis}
-use Rattle.cu_pull.specs.declared.axes.Axes.{Axes}
+use Rattle.cu_origin.specs.Pull.{has_axis}
+use Rattle.cu_origin.specs.declared.axes.Axes.{Axes}
 use Rattle.cu_node.specs.Info.{info_of}
 use Rattle.cu_node.specs.declared.info.NodeInfo.{NodeInfo}
 use Rattle.cu_tree.specs.declared.round.Round.{Round}

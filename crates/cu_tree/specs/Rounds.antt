@@ -2,8 +2,8 @@
 -- project's own rule).
 use Rattle.std.specs.Prelude.{◌≡◌, ℕ, zero, suc, ◌+◌, ◌<◌, ◌≤◌, nat_lt, IsTrue, if◌then◌else◌, List, [], ◌∷◌, ◌++◌, length, slice_index, slice_set}
 use Rattle.std.specs.Int.{div_ceil}
-use Rattle.cu_pull.specs.Pull.{has_axis}
-use Rattle.cu_pull.specs.declared.axes.Axes.{Axes}
+use Rattle.cu_origin.specs.Pull.{has_axis}
+use Rattle.cu_origin.specs.declared.axes.Axes.{Axes}
 use Rattle.cu_tree.specs.declared.round.Round.{Round}
 
 -- merges groups of `split_every` of the partial results on an axis, the last of which may be shorter

@@ -1,8 +1,8 @@
 //! Laws of rounds and of the arrays of partial results: calls that do nothing and whose clauses are the laws.
 
-ghost use Rattle.std.specs.Prelude.{◌≡◌, ◌≤◌, ◌<◌, ◌^◌, ℕ, List, All, length};
+ghost use Rattle.std.specs.Prelude.{◌≡◌, ◌≤◌, ◌^◌, ℕ, List, All, length};
 ghost use Rattle.cu_num.specs.declared.types.Dtype.{Dtype};
-ghost use Rattle.cu_pull.specs.declared.axes.Axes.{Axes};
+ghost use Rattle.cu_origin.specs.declared.axes.Axes.{Axes};
 ghost use Rattle.cu_node.specs.Info.{IsInfo};
 ghost use Rattle.cu_node.specs.declared.info.NodeInfo.{NodeInfo};
 ghost use Rattle.cu_tree.specs.Partials.{first_partial, reduction_rounds, product_partial, product_rounds, arrays_written, partials_before, AreMerges, IsMiddle};

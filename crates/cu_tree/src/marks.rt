@@ -2,10 +2,10 @@
 
 ghost use Rattle.std.specs.Prelude.{◌≡◌, ◌<◌, ℕ, get_or, false, IfSome};
 ghost use Rattle.cu_reduce.specs.Places.{is_sought};
-ghost use Rattle.cu_pull.specs.Pull.{has_axis};
+ghost use Rattle.cu_origin.specs.Pull.{has_axis};
 ghost use Rattle.cu_tree.specs.Marks.{marked_axes, sought_axes};
 
-use cu_pull::Axes;
+use cu_origin::Axes;
 
 /// The axes that are marked.
 pub fn marked_axes(marks: &[bool; 6]) -> Axes

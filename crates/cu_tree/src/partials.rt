@@ -5,7 +5,7 @@ ghost use Rattle.std.specs.Int.{div_ceil};
 ghost use Rattle.cu_num.specs.Dtype.{size_of};
 ghost use Rattle.cu_shape.specs.Index.{product};
 ghost use Rattle.cu_reduce.specs.Groups.{groups_of, group_counts};
-ghost use Rattle.cu_pull.specs.Pull.{has_axis};
+ghost use Rattle.cu_origin.specs.Pull.{has_axis};
 ghost use Rattle.cu_node.specs.Info.{IsInfo};
 ghost use Rattle.cu_tree.specs.Partials.{first_partial, partial_size, partial_chunk_from, inner_count, product_partial, merged, chunks_of, chunks_written, chunks_before, AreMerges, IsMiddle};
 
@@ -14,7 +14,7 @@ use crate::tree::has_axis;
 use cu_grid::Grid;
 use cu_node::{NodeInfo, grown};
 use cu_num::Dtype;
-use cu_pull::Axes;
+use cu_origin::Axes;
 use cu_shape::Dims;
 
 /// The first array of partial results, of this type, of a reduction along some axes: along each of them as many elements as the source

@@ -2,7 +2,7 @@ ghost use Rattle.std.specs.Prelude.{◌≡◌, ◌+◌, ◌<◌, ◌≤◌, ◌+
 ghost use Rattle.arrayvec.specs.ArrayVec.{array_vec_len};
 ghost use Rattle.cu_shape.specs.Index.{product};
 ghost use Rattle.cu_shape.specs.Counts.{at_least_one};
-ghost use Rattle.cu_pull.specs.Pull.{has_axis};
+ghost use Rattle.cu_origin.specs.Pull.{has_axis};
 ghost use Rattle.cu_node.specs.Info.{IsInfo};
 ghost use Rattle.cu_tree.specs.Partials.{reduction_rounds, product_rounds};
 ghost use Rattle.cu_tree.specs.Rounds.{axis_rounds, merged_on, rounds_of, AreRounds};
@@ -11,7 +11,7 @@ use crate::partials::inner_count;
 use crate::round::Round;
 use arrayvec::ArrayVec;
 use cu_node::NodeInfo;
-use cu_pull::Axes;
+use cu_origin::Axes;
 use cu_shape::{Dims, chunk_counts};
 
 /// The rounds that merge the partial results of a reduction over `axes`, of which there are so many on each axis, until none

@@ -1,4 +1,4 @@
-ghost use Rattle.std.specs.Prelude.{◌≡◌, ℕ, All, IfOk};
+ghost use Rattle.std.specs.Prelude.{◌≡◌, All, IfOk};
 ghost use Rattle.cu_node.specs.Info.{IsInfo};
 ghost use Rattle.cu_typing.specs.Elementwise.{joined_array, typed_elementwise};
 ghost use Rattle.cu_typing.specs.Joined.{arrays_of};

@@ -1,7 +1,6 @@
 //! Arrays that broadcast together: their shape, their chunk shape, and the chunks to which they are aligned.
 
-ghost use Rattle.std.specs.Prelude.{◌≡◌, ◌≤◌, ◌<◌, ℕ, All, IfOk, Ok, length, max, slice_index, replicate};
-ghost use Rattle.cu_node.specs.Info.{IsInfo};
+ghost use Rattle.std.specs.Prelude.{◌≡◌, ◌≤◌, ◌<◌, IfOk, length, replicate};
 ghost use Rattle.cu_typing.specs.Joined.{arrays_of, joined_rank, joined_with, joined_shape, fills, chunk_on, joined_chunk, aligned_on, aligned_chunk, aligned_within};
 
 use crate::argument::Argument;

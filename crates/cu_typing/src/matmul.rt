@@ -1,7 +1,7 @@
-ghost use Rattle.std.specs.Prelude.{◌≡◌, ◌+◌, ◌-◌, ◌<◌, ◌≤◌, ◌++◌, ◌∷◌, All, IfOk, length, drop, [], ℕ};
+ghost use Rattle.std.specs.Prelude.{◌≡◌, ◌+◌, ◌<◌, ◌≤◌, ◌++◌, ◌∷◌, All, IfOk, length, []};
 ghost use Rattle.cu_node.specs.Info.{IsInfo};
 ghost use Rattle.cu_typing.specs.Joined.{arrays_of, aligned_chunk};
-ghost use Rattle.cu_typing.specs.Matmul.{rows, columns, left_summed, right_summed, leading_array, leading_arrays, leading_chunk, left_aligned, right_aligned, product_shape, product_chunk, are_within, product_type, product_lead, product_limited, product_array, typed_matmul};
+ghost use Rattle.cu_typing.specs.Matmul.{rows, columns, left_summed, right_summed, leading_array, leading_arrays, leading_chunk, are_within, product_type, product_lead, product_limited, product_array, typed_matmul};
 
 use crate::argument::Argument;
 use crate::joining::{chunk_aligned, chunk_joined, shape_joined};

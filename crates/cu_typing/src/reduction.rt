@@ -1,7 +1,7 @@
-ghost use Rattle.std.specs.Prelude.{◌≡◌, ◌<◌, ◌≤◌, ◌+◌, ◌==◌, ◌&&◌, All, IfOk, length, option_map, [], ◌∷◌, ◌++◌};
+ghost use Rattle.std.specs.Prelude.{◌≡◌, ◌<◌, ◌≤◌, ◌+◌, ◌==◌, ◌&&◌, IfOk, length, option_map, ◌++◌};
 ghost use Rattle.cu_shape.specs.Index.{product};
 ghost use Rattle.cu_node.specs.Info.{IsInfo};
-ghost use Rattle.cu_typing.specs.Reduction.{needs_element, marks_of, reduced_sizes, kept_size, kept_sizes, reduced, fold_rule, place_rule, typed_reduction, typed_arg_place};
+ghost use Rattle.cu_typing.specs.Reduction.{needs_element, marks_of, reduced_sizes, kept_size, kept_sizes, reduced, typed_reduction, typed_arg_place};
 
 use cu_node::{
     FaultCode, NodeFault, NodeInfo, all_axes, fault, grown, is_integer, named_axes, within_limits,

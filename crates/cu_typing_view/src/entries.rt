@@ -1,5 +1,5 @@
 //! Arrays read at an index of integers, slices, new axes and an ellipsis.
-ghost use Rattle.std.specs.Prelude.{◌≡◌, ◌+◌, ◌<◌, ◌≤◌, ◌^◌, ◌++◌, [], ◌∷◌, false, None, All, IfOk, IfSome, IfNone, length, take, drop};
+ghost use Rattle.std.specs.Prelude.{◌≡◌, ◌+◌, ◌<◌, ◌≤◌, ◌^◌, ◌++◌, [], ◌∷◌, false, None, IfOk, IfSome, IfNone, length, take, drop};
 ghost use Rattle.cu_shape.specs.Index.{axis_by_axis};
 ghost use Rattle.cu_node.specs.Info.{IsInfo};
 ghost use Rattle.cu_node.specs.Limited.{limited};

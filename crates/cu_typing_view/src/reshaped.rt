@@ -2,7 +2,7 @@
 ghost use Rattle.std.specs.Prelude.{◌≡◌, ◌*◌, ◌/◌, [], ◌∷◌, ◌<◌, ◌≤◌, All, IfOk, length, min};
 ghost use Rattle.cu_shape.specs.Index.{product};
 ghost use Rattle.cu_node.specs.Info.{IsInfo};
-ghost use Rattle.cu_typing_view.specs.Reshaped.{given, leaves_one, can_hold, filled, reshaped_sizes, chunk_size, chunk_of, are_stretched, stretches_to, typed_reshape, typed_broadcast, typed_rechunk};
+ghost use Rattle.cu_typing_view.specs.Reshaped.{given, leaves_one, can_hold, filled, chunk_size, chunk_of, are_stretched, stretches_to, typed_reshape, typed_broadcast, typed_rechunk};
 
 use cu_node::{FaultCode, NodeFault, NodeInfo, fault, fault_at, within_limits, within_limits_list};
 use cu_shape::Dims;

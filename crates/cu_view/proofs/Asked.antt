@@ -6,8 +6,8 @@ use Rattle.std.proofs.lemmas.List.Edits.{length-remove}
 use Rattle.cu_shape.specs.Index.{IsInside}
 use Rattle.cu_shape.proofs.Products.{size_within}
 use Rattle.cu_grid.specs.Counts.{IsRegion}
-use Rattle.cu_pull.specs.Fits.{FitsConcat, FitsStack, FitsPull}
-use Rattle.cu_pull.specs.declared.pull.Pull.{Pull}
+use Rattle.cu_origin.specs.Fits.{FitsConcat, FitsStack, FitsPull}
+use Rattle.cu_origin.specs.declared.pull.Pull.{Pull}
 use Rattle.cu_view_box.specs.Piece.{count_along}
 use Rattle.cu_view_box.specs.Way.{read_by}
 use Rattle.cu_view_box.specs.declared.way.Way.{Way}

@@ -6,7 +6,7 @@ use Rattle.std.proofs.lemmas.List.{get_or-set_same}
 use Rattle.cu_grid.specs.Counts.{IsWithin}
 use Rattle.cu_grid.proofs.Meeting.{within_of}
 use Rattle.cu_view_box.proofs.Boxes.{within_set, moved_within}
-use Rattle.cu_pull.specs.Pull.{is_in_triangle}
+use Rattle.cu_origin.specs.Pull.{is_in_triangle}
 use Rattle.cu_view.proofs.Corners.{read_same}
 use Rattle.cu_view.specs.Gathered.{is_cell}
 

@@ -3,14 +3,14 @@ use Rattle.std.proofs.Common.{◌≡◌, ℕ, ◌<◌, ◌≤◌, List, [], leng
 use Rattle.std.proofs.lemmas.List.{ext_get_or, length-map, get_or-map}
 use Rattle.cu_shape.specs.Index.{IsInside}
 use Rattle.cu_shape.proofs.Places.{inside-length}
-use Rattle.cu_pull.specs.Fits.{FitsPull, FitsConcat}
-use Rattle.cu_pull.specs.Pull.{concat_from, origin_of, IsInSources}
-use Rattle.cu_pull.specs.declared.provenance.Provenance.{Provenance}
-use Rattle.cu_pull.specs.declared.provenance.Provenance.TheVariants.{From}
-use Rattle.cu_pull.specs.declared.pull.Pull.{Pull}
-use Rattle.cu_pull.specs.declared.pull.Pull.TheVariants.{Reshape, Concat, Stack, Triangle, Full, Arange, Eye}
-use Rattle.cu_pull.proofs.AxesInside.{inside_at}
-use Rattle.cu_pull.proofs.OriginsInside.{inside_sources}
+use Rattle.cu_origin.specs.Fits.{FitsPull, FitsConcat}
+use Rattle.cu_origin.specs.Pull.{concat_from, origin_of, IsInSources}
+use Rattle.cu_origin.specs.declared.provenance.Provenance.{Provenance}
+use Rattle.cu_origin.specs.declared.provenance.Provenance.TheVariants.{From}
+use Rattle.cu_origin.specs.declared.pull.Pull.{Pull}
+use Rattle.cu_origin.specs.declared.pull.Pull.TheVariants.{Reshape, Concat, Stack, Triangle, Full, Arange, Eye}
+use Rattle.cu_origin.proofs.AxesInside.{inside_at}
+use Rattle.cu_origin.proofs.OriginsInside.{inside_sources}
 use Rattle.cu_view_box.specs.Piece.{read_by_ways, count_along}
 use Rattle.cu_view_box.specs.Way.{read_by}
 use Rattle.cu_view_box.specs.declared.way.Way.{Way}

@@ -4,8 +4,8 @@ use Rattle.std.specs.List.{sum_by}
 use Rattle.std.proofs.lemmas.List.{length-set, get_or-set_same, get_or-set_other, ext_get_or}
 use Rattle.std.proofs.lemmas.List.Sums.{sum_by-cons}
 use Rattle.std.proofs.lemmas.Bool.Decides.{eqb_tells}
-use Rattle.cu_pull.specs.Pull.{concat_from}
-use Rattle.cu_pull.specs.declared.provenance.Provenance.TheVariants.{From}
+use Rattle.cu_origin.specs.Pull.{concat_from}
+use Rattle.cu_origin.specs.declared.provenance.Provenance.TheVariants.{From}
 use Rattle.cu_view.proofs.Fitting.{ltb_tells}
 use Rattle.cu_view.specs.Boxes.{offset_of}
 use Rattle.cu_view.specs.Pieces.{source_number}

@@ -5,7 +5,7 @@ use Rattle.std.proofs.lemmas.Int.{ints}
 use Rattle.std.proofs.lemmas.List.{length-set, get_or-set_same, get_or-set_other}
 use Rattle.cu_grid.specs.Counts.{IsWithin}
 use Rattle.cu_grid.proofs.Meeting.{within_from, within_of}
-use Rattle.cu_pull.specs.Pull.{is_in_triangle}
+use Rattle.cu_origin.specs.Pull.{is_in_triangle}
 
 pub corner_within : (lo hi : List ℕ) (axis : ℕ) → IsWithin lo hi lo → axis < length lo → IsWithin lo hi (set lo axis (get_or hi axis 0 - 1))
 corner_within lo hi axis w l =

@@ -8,7 +8,7 @@ use Rattle.std.proofs.lemmas.Bool.Decides.{Decides-int_eq, not_from_Decides}
 use Rattle.cu_num.specs.Element.{bytes_at, element_bytes}
 use Rattle.cu_num.specs.declared.layout.Endian.TheVariants.{Little}
 use Rattle.cu_grid.specs.Counts.{IsWithin}
-use Rattle.cu_pull.specs.Pull.{diagonal_of}
+use Rattle.cu_origin.specs.Pull.{diagonal_of}
 use Rattle.cu_view_box.specs.Block.{buffer_place}
 use Rattle.cu_view_box.specs.declared.block.Block.{Block}
 

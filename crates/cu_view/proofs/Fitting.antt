@@ -7,11 +7,11 @@ use Rattle.cu_shape.specs.Index.{product, IsInside}
 use Rattle.cu_shape.specs.declared.slice.Run.{Run}
 use Rattle.cu_shape.proofs.Places.{inside-length}
 use Rattle.cu_shape.proofs.Products.{product_within}
-use Rattle.cu_pull.specs.Fits.{OfOne, FitsSlice, FitsPermute, FitsPull}
-use Rattle.cu_pull.specs.Pull.{counts_of_runs}
-use Rattle.cu_pull.specs.declared.pull.Pull.{Pull}
-use Rattle.cu_pull.proofs.AxesInside.{by_test}
-use Rattle.cu_pull.proofs.OriginsInside.{product-without_ones}
+use Rattle.cu_origin.specs.Fits.{OfOne, FitsSlice, FitsPermute, FitsPull}
+use Rattle.cu_origin.specs.Pull.{counts_of_runs}
+use Rattle.cu_origin.specs.declared.pull.Pull.{Pull}
+use Rattle.cu_origin.proofs.AxesInside.{by_test}
+use Rattle.cu_origin.proofs.OriginsInside.{product-without_ones}
 use Rattle.cu_view.specs.View.{HasFewElements}
 
 pub fits_as : (pull q : Pull) (sources : List (List ℕ)) (shape : List ℕ) → pull ≡ q → FitsPull pull sources shape → FitsPull q sources shape

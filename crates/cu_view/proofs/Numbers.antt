@@ -2,12 +2,12 @@
 use Rattle.std.proofs.Common.{◌≡◌, ℕ, ◌+◌, Bool, true, false, ℤ, pos, List, [], ◌∷◌, length, get_or, sym, ◌∙◌, subst, arith, if◌then◌else◌}
 use Rattle.cu_shape.specs.Index.{place_of, differences, IsInside}
 use Rattle.cu_grid.specs.Counts.{IsWithin}
-use Rattle.cu_pull.specs.Fits.{FitsConcat}
-use Rattle.cu_pull.specs.Pull.{concat_from, origin_of}
-use Rattle.cu_pull.specs.declared.provenance.Provenance.{Provenance}
-use Rattle.cu_pull.specs.declared.provenance.Provenance.TheVariants.{From, Const}
-use Rattle.cu_pull.specs.declared.pull.Pull.{Pull}
-use Rattle.cu_pull.proofs.AxesInside.{inside_at}
+use Rattle.cu_origin.specs.Fits.{FitsConcat}
+use Rattle.cu_origin.specs.Pull.{concat_from, origin_of}
+use Rattle.cu_origin.specs.declared.provenance.Provenance.{Provenance}
+use Rattle.cu_origin.specs.declared.provenance.Provenance.TheVariants.{From, Const}
+use Rattle.cu_origin.specs.declared.pull.Pull.{Pull}
+use Rattle.cu_origin.proofs.AxesInside.{inside_at}
 use Rattle.cu_shape.proofs.Places.{inside-length}
 use Rattle.cu_view.proofs.Concats.{concat_at, concat_has}
 

@@ -3,8 +3,8 @@ use Rattle.std.proofs.Common.{◌≡◌, ℕ, ◌<◌, ◌≤◌, List, length, 
 use Rattle.std.proofs.lemmas.List.{length-map}
 use Rattle.std.proofs.lemmas.List.Elements.{All-map}
 use Rattle.cu_shape.specs.Index.{IsInside}
-use Rattle.cu_pull.specs.Pull.{IsInSources}
-use Rattle.cu_pull.proofs.OriginsInside.{inside_sources}
+use Rattle.cu_origin.specs.Pull.{IsInSources}
+use Rattle.cu_origin.proofs.OriginsInside.{inside_sources}
 use Rattle.cu_op.specs.declared.layout.ArrayInfo.{ArrayInfo}
 use Rattle.cu_op.specs.declared.operation.Op.{Op}
 use Rattle.cu_op.specs.declared.operation.Op.TheVariants.{Pull}

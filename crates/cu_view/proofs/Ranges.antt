@@ -6,7 +6,7 @@ use Rattle.cu_shape.specs.Index.{IsInside}
 use Rattle.cu_shape.proofs.Places.{inside-length}
 use Rattle.cu_grid.specs.Counts.{IsRegion, IsWithin}
 use Rattle.cu_grid.proofs.Meeting.{within_from, within_of}
-use Rattle.cu_pull.proofs.AxesInside.{inside_at, inside_from}
+use Rattle.cu_origin.proofs.AxesInside.{inside_at, inside_from}
 
 pub region_from : (ns lo hi : List ℕ) → length lo ≡ length ns → length hi ≡ length ns → ((k : ℕ) → k < length ns → (get_or lo k 0 ≤ get_or hi k 0) × (get_or hi k 0 ≤ get_or ns k 0)) → IsRegion ns lo hi
 region_from [] [] [] p q h = tt

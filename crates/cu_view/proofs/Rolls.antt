@@ -9,7 +9,7 @@ use Rattle.cu_shape.specs.Index.{product, place_of, index_at, IsInside}
 use Rattle.cu_shape.proofs.Places.{inside-length, index-inside, place-index, index-place}
 use Rattle.cu_grid.specs.Counts.{IsRegion, IsWithin}
 use Rattle.cu_grid.proofs.Meeting.{within_from, within_of}
-use Rattle.cu_pull.proofs.AxesInside.{inside_at, inside_for_each}
+use Rattle.cu_origin.proofs.AxesInside.{inside_at, inside_for_each}
 use Rattle.cu_view.specs.Pieces.{turn_of, turn_on, ranges_on, ranges_of, range_on, range_at}
 use Rattle.cu_view.proofs.Ranges.{region_from}
 

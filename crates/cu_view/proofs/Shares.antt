@@ -5,14 +5,14 @@ use Rattle.cu_shape.specs.Index.{product, IsInside}
 use Rattle.cu_shape.proofs.Places.{place-below}
 use Rattle.cu_grid.specs.Counts.{IsRegion, IsWithin}
 use Rattle.cu_grid.specs.declared.region.Region.{Region}
-use Rattle.cu_pull.specs.Fits.{FitsPull}
-use Rattle.cu_pull.specs.Pull.{origin_of, diagonal_of, is_in_triangle, IsInSources}
-use Rattle.cu_pull.specs.declared.provenance.Provenance.{Provenance}
-use Rattle.cu_pull.specs.declared.provenance.Provenance.TheVariants.{From, Const}
-use Rattle.cu_pull.specs.declared.pull.Pull.{Pull}
-use Rattle.cu_pull.specs.declared.pull.Pull.TheVariants.{Reshape, Concat, Stack, Roll, Triangle, Full, Arange, Eye}
-use Rattle.cu_pull.proofs.AxesInside.{by_test}
-use Rattle.cu_pull.proofs.OriginsInside.{inside_sources}
+use Rattle.cu_origin.specs.Fits.{FitsPull}
+use Rattle.cu_origin.specs.Pull.{origin_of, diagonal_of, is_in_triangle, IsInSources}
+use Rattle.cu_origin.specs.declared.provenance.Provenance.{Provenance}
+use Rattle.cu_origin.specs.declared.provenance.Provenance.TheVariants.{From, Const}
+use Rattle.cu_origin.specs.declared.pull.Pull.{Pull}
+use Rattle.cu_origin.specs.declared.pull.Pull.TheVariants.{Reshape, Concat, Stack, Roll, Triangle, Full, Arange, Eye}
+use Rattle.cu_origin.proofs.AxesInside.{by_test}
+use Rattle.cu_origin.proofs.OriginsInside.{inside_sources}
 use Rattle.cu_view_box.specs.Piece.{read_at, HaveRanks}
 use Rattle.cu_view_box.specs.Reshape.{IsReshape}
 use Rattle.cu_view_box.specs.declared.piece.Piece.{Piece}

@@ -8,9 +8,9 @@ use Rattle.cu_shape.specs.Index.{product, place_of, index_at, IsInside}
 use Rattle.cu_shape.specs.Slice.{at_least_zero, index_taken, IsIndex}
 use Rattle.cu_shape.specs.declared.slice.Run.{Run}
 use Rattle.cu_shape.proofs.Places.{inside-length, place-below, index-inside, place-index, index-place}
-use Rattle.cu_pull.specs.Fits.{without_ones, FitsSlice}
-use Rattle.cu_pull.specs.Pull.{counts_of_runs, sliced}
-use Rattle.cu_pull.proofs.OriginsInside.{product-without_ones}
+use Rattle.cu_origin.specs.Fits.{without_ones, FitsSlice}
+use Rattle.cu_origin.specs.Pull.{counts_of_runs, sliced}
+use Rattle.cu_origin.proofs.OriginsInside.{product-without_ones}
 use Rattle.cu_view_box.specs.Piece.{count_along, IsWayOver}
 use Rattle.cu_view_box.specs.Way.{read_by}
 use Rattle.cu_view_box.specs.declared.way.Way.{Way}

@@ -6,8 +6,8 @@ use Rattle.cu_shape.specs.Slice.{at_least_zero, index_taken, IsIndex}
 use Rattle.cu_shape.specs.declared.slice.Run.{Run}
 use Rattle.cu_shape.proofs.Places.{inside-length}
 use Rattle.cu_view.specs.Boxes.{no_run}
-use Rattle.cu_pull.specs.Fits.{AreRuns}
-use Rattle.cu_pull.specs.Pull.{counts_of_runs, taken_by}
+use Rattle.cu_origin.specs.Fits.{AreRuns}
+use Rattle.cu_origin.specs.Pull.{counts_of_runs, taken_by}
 
 -- the index that the run of an axis takes
 abbrev pub taken_on : Run → List Run → List ℕ → ℕ → ℕ

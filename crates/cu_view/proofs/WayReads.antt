@@ -8,10 +8,10 @@ use Rattle.std.proofs.lemmas.List.Edits.{get_or-remove_below, get_or-remove_abov
 use Rattle.std.proofs.lemmas.List.FromFn.{get_or-map-range_with_len}
 use Rattle.cu_shape.specs.Index.{place_of, index_at, IsInside, back, back_along}
 use Rattle.cu_shape.proofs.Places.{inside-length, index-place}
-use Rattle.cu_pull.specs.Pull.{permuted, permuted_on, flipped, flipped_on, has_axis, rolled, rolled_on, concat_from}
-use Rattle.cu_pull.specs.declared.axes.Axes.{Axes}
-use Rattle.cu_pull.specs.declared.provenance.Provenance.{Provenance}
-use Rattle.cu_pull.proofs.AxesInside.{inside_at, by_test}
+use Rattle.cu_origin.specs.Pull.{permuted, permuted_on, flipped, flipped_on, has_axis, rolled, rolled_on, concat_from}
+use Rattle.cu_origin.specs.declared.axes.Axes.{Axes}
+use Rattle.cu_origin.specs.declared.provenance.Provenance.{Provenance}
+use Rattle.cu_origin.proofs.AxesInside.{inside_at, by_test}
 use Rattle.cu_view_box.specs.Piece.{count_along, IsWayOver}
 use Rattle.cu_view_box.specs.Way.{read_by}
 use Rattle.cu_view_box.specs.declared.way.Way.{Way}

@@ -3,11 +3,11 @@ use Rattle.std.specs.Prelude.{◌≡◌, ◌≢◌, ℕ, zero, suc, ◌<◌, ◌
 use Rattle.std.specs.List.{sum_by, count_by}
 use Rattle.cu_shape.specs.Index.{index_at}
 use Rattle.cu_shape.specs.declared.slice.Run.{Run}
-use Rattle.cu_pull.specs.Pull.{origin_of}
-use Rattle.cu_pull.specs.declared.provenance.Provenance.{Provenance}
-use Rattle.cu_pull.specs.declared.provenance.Provenance.TheVariants.{From, Const}
-use Rattle.cu_pull.specs.declared.pull.Pull.{Pull}
-use Rattle.cu_pull.specs.declared.pull.Pull.TheVariants.{Concat, Stack, Roll, Triangle}
+use Rattle.cu_origin.specs.Pull.{origin_of}
+use Rattle.cu_origin.specs.declared.provenance.Provenance.{Provenance}
+use Rattle.cu_origin.specs.declared.provenance.Provenance.TheVariants.{From, Const}
+use Rattle.cu_origin.specs.declared.pull.Pull.{Pull}
+use Rattle.cu_origin.specs.declared.pull.Pull.TheVariants.{Concat, Stack, Roll, Triangle}
 use Rattle.cu_view_box.specs.declared.way.Way.{Way}
 use Rattle.cu_view_box.specs.declared.way.Way.TheVariants.{Fixed, Up, Down}
 use Rattle.cu_view.specs.Pieces.{turn_on, ranges_of}

@@ -4,11 +4,11 @@ use Rattle.std.specs.Int.{int_rem_euclid}
 use Rattle.cu_shape.specs.Index.{product, place_of, IsInside}
 use Rattle.cu_shape.specs.Slice.{at_least_zero}
 use Rattle.cu_grid.specs.Counts.{IsWithin}
-use Rattle.cu_pull.specs.Pull.{for_each_axis, is_in_triangle, origin_of}
-use Rattle.cu_pull.specs.declared.provenance.Provenance.{Provenance}
-use Rattle.cu_pull.specs.declared.provenance.Provenance.TheVariants.{From, Const}
-use Rattle.cu_pull.specs.declared.pull.Pull.{Pull}
-use Rattle.cu_pull.specs.declared.pull.Pull.TheVariants.{Reshape, Concat, Stack, Roll, Triangle, Full, Arange, Eye}
+use Rattle.cu_origin.specs.Pull.{for_each_axis, is_in_triangle, origin_of}
+use Rattle.cu_origin.specs.declared.provenance.Provenance.{Provenance}
+use Rattle.cu_origin.specs.declared.provenance.Provenance.TheVariants.{From, Const}
+use Rattle.cu_origin.specs.declared.pull.Pull.{Pull}
+use Rattle.cu_origin.specs.declared.pull.Pull.TheVariants.{Reshape, Concat, Stack, Roll, Triangle, Full, Arange, Eye}
 use Rattle.cu_view_box.specs.Piece.{read_at, IsPieceOfResult}
 use Rattle.cu_view_box.specs.declared.piece.Piece.{Piece}
 

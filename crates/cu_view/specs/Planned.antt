@@ -1,8 +1,8 @@
 -- The operation of a plan that is a view. This project's own rules.
 use Rattle.std.specs.Prelude.{◌≡◌, ℕ, pos, List}
-use Rattle.cu_pull.specs.declared.provenance.Provenance.{Provenance}
-use Rattle.cu_pull.specs.declared.provenance.Provenance.TheVariants.{Const}
-use Rattle.cu_pull.specs.declared.pull.Pull.TheVariants.{Reshape}
+use Rattle.cu_origin.specs.declared.provenance.Provenance.{Provenance}
+use Rattle.cu_origin.specs.declared.provenance.Provenance.TheVariants.{Const}
+use Rattle.cu_origin.specs.declared.pull.Pull.TheVariants.{Reshape}
 use Rattle.cu_op.specs.declared.layout.ArrayInfo.{ArrayInfo}
 use Rattle.cu_op.specs.declared.operation.Op.{Op}
 use Rattle.cu_op.specs.declared.operation.Op.TheVariants.{Pull}

@@ -2,8 +2,8 @@
 use Rattle.std.specs.Prelude.{ℕ, ◌^◌, ◌<◌, ◌≤◌, List, All, length}
 use Rattle.cu_shape.specs.Counts.{at_least_one}
 use Rattle.cu_shape.specs.Index.{product}
-use Rattle.cu_pull.specs.Fits.{FitsPull}
-use Rattle.cu_pull.specs.declared.pull.Pull.{Pull}
+use Rattle.cu_origin.specs.Fits.{FitsPull}
+use Rattle.cu_origin.specs.declared.pull.Pull.{Pull}
 
 -- at most 2^56 elements, an axis of size 0 counting as one
 abbrev pub HasFewElements : List ℕ → Type 0

@@ -1,15 +1,15 @@
 //! The boxes of a view's pieces.
-ghost use Rattle.std.specs.Prelude.{◌≡◌, ◌+◌, ◌<◌, ◌≤◌, ◌↔◌, ◌==◌, ◌^◌, [], ℕ, List, length, slice_index, slice_index_or, if◌then◌else◌};
+ghost use Rattle.std.specs.Prelude.{◌≡◌, ◌<◌, ◌≤◌, ◌↔◌, ◌==◌, [], ℕ, List, length, slice_index, slice_index_or, if◌then◌else◌};
 ghost use Rattle.cu_shape.specs.Index.{product, place_of, IsInside};
 ghost use Rattle.cu_grid.specs.Counts.{IsRegion, IsWithin};
-ghost use Rattle.cu_pull.specs.Fits.{FitsConcat};
-ghost use Rattle.cu_pull.specs.Pull.{concat_from};
+ghost use Rattle.cu_origin.specs.Fits.{FitsConcat};
+ghost use Rattle.cu_origin.specs.Pull.{concat_from};
 ghost use Rattle.cu_view.specs.Boxes.{first_on, offset_of, range_begin, source_of};
 ghost use Rattle.cu_view.specs.Pieces.{turn_of, ranges_of, range_at, source_number, pieces_of, number_at};
 ghost use Rattle.cu_view.specs.View.{IsView};
 
 use cu_grid::Region;
-use cu_pull::Pull;
+use cu_origin::Pull;
 use cu_shape::{Dims, index_of};
 
 /// The box of a piece, by the piece's number.

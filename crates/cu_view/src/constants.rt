@@ -1,16 +1,16 @@
 //! The elements of a result that come from no source.
-ghost use Rattle.std.specs.Prelude.{◌≡◌, ◌<◌, ◌≤◌, ◌^◌, ℕ, ℤ, List, length};
+ghost use Rattle.std.specs.Prelude.{◌≡◌, ℕ, ℤ, List, length};
 ghost use Rattle.cu_num.specs.Element.{bytes_at, element_bytes};
 ghost use Rattle.cu_grid.specs.Counts.{IsRegion, IsWithin};
-ghost use Rattle.cu_pull.specs.Pull.{origin_of};
-ghost use Rattle.cu_pull.specs.declared.provenance.Provenance.TheVariants.{Const};
+ghost use Rattle.cu_origin.specs.Pull.{origin_of};
+ghost use Rattle.cu_origin.specs.declared.provenance.Provenance.TheVariants.{Const};
 ghost use Rattle.cu_view_box.specs.Block.{buffer_place, IsBlock};
 ghost use Rattle.cu_view.specs.View.{IsView};
 
 use crate::fills::{fill, fill_with_terms};
 use crate::ones::lay_eye;
 use cu_num::Endian;
-use cu_pull::Pull;
+use cu_origin::Pull;
 use cu_shape::Dims;
 use cu_view_box::Block;
 

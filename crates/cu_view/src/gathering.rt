@@ -2,8 +2,8 @@
 ghost use Rattle.std.specs.Prelude.{◌≡◌, ◌<◌, [], ℕ, List, All, length, slice_index_or};
 ghost use Rattle.cu_num.specs.Element.{bytes_at, element_at, element_bytes};
 ghost use Rattle.cu_grid.specs.Counts.{IsRegion, IsWithin};
-ghost use Rattle.cu_pull.specs.Pull.{origin_of};
-ghost use Rattle.cu_pull.specs.declared.provenance.Provenance.TheVariants.{From};
+ghost use Rattle.cu_origin.specs.Pull.{origin_of};
+ghost use Rattle.cu_origin.specs.declared.provenance.Provenance.TheVariants.{From};
 ghost use Rattle.cu_view_box.specs.Block.{buffer_place, IsBlock, IsMove, AreSpelled};
 ghost use Rattle.cu_view_box.specs.Piece.{HaveRanks, IsSharedIndex, IsWayOver};
 ghost use Rattle.cu_view.specs.Gathered.{HasMoved, IsElementKept};
@@ -14,7 +14,7 @@ use crate::pieces::{piece_at, piece_count};
 use crate::triangles::{TriangleCopying, copy_triangle};
 use cu_grid::Region;
 use cu_num::Endian;
-use cu_pull::Pull;
+use cu_origin::Pull;
 use cu_shape::Dims;
 use cu_view_box::{Block, Piece, copy_box, reshape_gather, shared_box};
 

@@ -2,8 +2,8 @@
 ghost use Rattle.std.specs.Prelude.{◌≡◌, ◌<◌, [], ℕ, List, All, IfSome, length, slice_index_or};
 ghost use Rattle.std.specs.Option.{IfNone};
 ghost use Rattle.cu_grid.specs.Counts.{IsRegion, IsWithin};
-ghost use Rattle.cu_pull.specs.Pull.{origin_of};
-ghost use Rattle.cu_pull.specs.declared.provenance.Provenance.TheVariants.{From};
+ghost use Rattle.cu_origin.specs.Pull.{origin_of};
+ghost use Rattle.cu_origin.specs.declared.provenance.Provenance.TheVariants.{From};
 ghost use Rattle.cu_shape.specs.Index.{IsInside};
 ghost use Rattle.cu_view_box.specs.Piece.{read_at, HaveRanks, IsWayOver};
 ghost use Rattle.cu_view.specs.Hull.{HoldsIndex};
@@ -12,7 +12,7 @@ ghost use Rattle.cu_view.specs.View.{IsView};
 use crate::boxes::whole;
 use crate::pieces::{piece_at, piece_count};
 use cu_grid::Region;
-use cu_pull::Pull;
+use cu_origin::Pull;
 use cu_shape::Dims;
 use cu_view_box::{Piece, read_hull, reshape_hull, shared_box};
 

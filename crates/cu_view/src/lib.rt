@@ -19,7 +19,7 @@ mod triangles;
 mod ways;
 
 pub use constants::lay_constants;
-pub use cu_pull::Provenance;
+pub use cu_origin::Provenance;
 pub use gathering::gather;
 pub use hull::hull_of;
 pub use origins::origin_of;

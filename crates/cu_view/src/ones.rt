@@ -4,7 +4,7 @@ ghost use Rattle.std.specs.Option.{IfNone};
 ghost use Rattle.std.specs.Ordering.{int_eq};
 ghost use Rattle.cu_num.specs.Element.{bytes_at, element_bytes};
 ghost use Rattle.cu_grid.specs.Counts.{IsWithin};
-ghost use Rattle.cu_pull.specs.Pull.{diagonal_of};
+ghost use Rattle.cu_origin.specs.Pull.{diagonal_of};
 ghost use Rattle.cu_view_box.specs.Block.{buffer_place, IsBlock};
 
 use crate::elements::put;

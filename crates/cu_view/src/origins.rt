@@ -1,15 +1,15 @@
 //! The origin of one element of a view.
-ghost use Rattle.std.specs.Prelude.{◌≡◌, ◌<◌, ◌≤◌, ◌^◌, ℕ, ◌==◌, pos, negsuc, ◌-◌, ◌+ℤ◌, ◌-ℤ◌, ◌*ℤ◌, ◌≤ℤ◌, ◌<ℤ◌, List, All, Contains, length, slice_index, if◌then◌else◌};
+ghost use Rattle.std.specs.Prelude.{◌≡◌, ◌<◌, ◌≤◌, ◌^◌, ℕ, ◌==◌, pos, negsuc, ◌-◌, ◌+ℤ◌, ◌-ℤ◌, ◌*ℤ◌, ◌≤ℤ◌, ◌<ℤ◌, All, Contains, length, if◌then◌else◌};
 ghost use Rattle.std.specs.Int.{int_rem_euclid};
 ghost use Rattle.std.specs.List.{position_or_len};
 ghost use Rattle.cu_shape.specs.Index.{product, IsInside};
 ghost use Rattle.cu_shape.specs.Slice.{at_least_zero, IsIndex};
-ghost use Rattle.cu_pull.specs.Fits.{AreRuns};
-ghost use Rattle.cu_pull.specs.Pull.{origin_of, counts_of_runs, taken_by, sliced, permuted, flipped, rolled, concat_from, diagonal_of, is_in_triangle, has_axis};
-ghost use Rattle.cu_pull.specs.declared.provenance.Provenance.TheVariants.{From, Const};
+ghost use Rattle.cu_origin.specs.Fits.{AreRuns};
+ghost use Rattle.cu_origin.specs.Pull.{origin_of, counts_of_runs, taken_by, sliced, permuted, flipped, rolled, concat_from, diagonal_of, is_in_triangle, has_axis};
+ghost use Rattle.cu_origin.specs.declared.provenance.Provenance.TheVariants.{From, Const};
 ghost use Rattle.cu_view.specs.View.{IsView};
 
-use cu_pull::{Axes, Provenance, Pull};
+use cu_origin::{Axes, Provenance, Pull};
 use cu_shape::{Dims, Run, back, index_of, place};
 
 /// From where the element of a view's result at an index comes: a source and the index in it, or a number (Python array API

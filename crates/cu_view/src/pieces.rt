@@ -1,9 +1,7 @@
 //! The pieces of a view's result.
-ghost use Rattle.std.specs.Prelude.{◌≡◌, ◌<◌, ◌≤◌, [], ℕ, List, All, length, slice_index, slice_index_or};
+ghost use Rattle.std.specs.Prelude.{◌≡◌, ◌<◌, [], ℕ, List, All, length, slice_index, slice_index_or};
 ghost use Rattle.cu_shape.specs.Index.{product, IsInside};
-ghost use Rattle.cu_grid.specs.Counts.{IsRegion, IsWithin};
-ghost use Rattle.cu_pull.specs.Pull.{origin_of};
-ghost use Rattle.cu_pull.specs.declared.provenance.Provenance.TheVariants.{From};
+ghost use Rattle.cu_grid.specs.Counts.{IsRegion};
 ghost use Rattle.cu_view_box.specs.Piece.{read_by_ways, IsWayOver};
 ghost use Rattle.cu_view.specs.Boxes.{first_on, source_of, index_read};
 ghost use Rattle.cu_view.specs.Pieces.{ranges_of, pieces_of, number_at, IsNumbered};
@@ -13,7 +11,7 @@ use crate::boxes::{box_at, ranges, source_at};
 use crate::ways::way_on;
 use arrayvec::ArrayVec;
 use cu_grid::Region;
-use cu_pull::Pull;
+use cu_origin::Pull;
 use cu_shape::Dims;
 use cu_view_box::{Piece, Way};
 

@@ -2,8 +2,8 @@
 ghost use Rattle.std.specs.Prelude.{◌≡◌, ◌<◌, ◌≤◌, ℕ, List, All, IsTrue, length, slice_index};
 ghost use Rattle.cu_shape.specs.Index.{IsInside};
 ghost use Rattle.cu_grid.specs.Counts.{IsRegion, IsWithin};
-ghost use Rattle.cu_pull.specs.Pull.{IsInSources};
-ghost use Rattle.cu_pull.specs.declared.provenance.Provenance.TheVariants.{From};
+ghost use Rattle.cu_origin.specs.Pull.{IsInSources};
+ghost use Rattle.cu_origin.specs.declared.provenance.Provenance.TheVariants.{From};
 ghost use Rattle.cu_op.specs.Operation.{reads_of, target_of};
 ghost use Rattle.cu_op.specs.Kind.Pull.{shapes_at, pulled};
 ghost use Rattle.cu_op.specs.Schedule.{op_of};
@@ -17,7 +17,7 @@ use crate::touching::touches_of;
 use arrayvec::ArrayVec;
 use cu_grid::Region;
 use cu_op::{Op, Plan};
-use cu_pull::Provenance;
+use cu_origin::Provenance;
 use cu_shape::Dims;
 
 /// From where the element of a view's result at an index comes: a source of the operation and the index in it, or a number. So

@@ -1,9 +1,9 @@
 //! Whether a part of a source matters for a region of the result.
 ghost use Rattle.std.specs.Prelude.{◌≡◌, ◌≢◌, ◌<◌, ◌≤◌, ◌-◌, [], ℕ, List, All, IsTrue, length, slice_index, slice_index_or, slice_set, if◌then◌else◌};
 ghost use Rattle.cu_grid.specs.Counts.{IsRegion, IsWithin};
-ghost use Rattle.cu_pull.specs.Pull.{origin_of};
-ghost use Rattle.cu_pull.specs.declared.provenance.Provenance.TheVariants.{From};
-ghost use Rattle.cu_pull.specs.declared.pull.Pull.TheVariants.{Reshape};
+ghost use Rattle.cu_origin.specs.Pull.{origin_of};
+ghost use Rattle.cu_origin.specs.declared.provenance.Provenance.TheVariants.{From};
+ghost use Rattle.cu_origin.specs.declared.pull.Pull.TheVariants.{Reshape};
 ghost use Rattle.cu_view_box.specs.Reshape.{MeetsRun};
 ghost use Rattle.cu_view_box.specs.Piece.{HaveRanks, IsSharedIndex, IsWayOver};
 ghost use Rattle.cu_view.specs.Pieces.{HasAxes, IsShown};
@@ -12,7 +12,7 @@ ghost use Rattle.cu_view.specs.View.{IsView};
 use crate::origins::is_in_triangle;
 use crate::pieces::{piece_at, piece_count};
 use cu_grid::Region;
-use cu_pull::Pull;
+use cu_origin::Pull;
 use cu_shape::Dims;
 use cu_view_box::{Piece, reshape_touches, shared_box};
 

@@ -1,7 +1,7 @@
 //! The elements of a triangle, row by row.
 ghost use Rattle.std.specs.Prelude.{◌≡◌, ◌<◌, ◌≤◌, ◌↔◌, ◌<ℤ◌, ◌+ℤ◌, ◌-◌, pos, ℕ, List, IsTrue, length, slice_index, if◌then◌else◌};
 ghost use Rattle.cu_grid.specs.Counts.{IsWithin};
-ghost use Rattle.cu_pull.specs.Pull.{is_in_triangle};
+ghost use Rattle.cu_origin.specs.Pull.{is_in_triangle};
 ghost use Rattle.cu_view_box.specs.Block.{IsBlock, IsMove, AreSpelled};
 ghost use Rattle.cu_view.specs.Gathered.{HasMoved, IsElementKept, is_cell};
 

@@ -2,8 +2,8 @@
 ghost use Rattle.std.specs.Prelude.{◌≡◌, ◌≢◌, ◌+◌, ◌-◌, ◌<◌, ◌≤◌, ◌==◌, [], nat_lt, ℕ, List, length, slice_index, slice_index_or, if◌then◌else◌};
 ghost use Rattle.cu_shape.specs.Index.{product, index_at, IsInside};
 ghost use Rattle.cu_grid.specs.Counts.{IsRegion};
-ghost use Rattle.cu_pull.specs.Fits.{without_ones};
-ghost use Rattle.cu_pull.specs.Pull.{counts_of_runs, has_axis};
+ghost use Rattle.cu_origin.specs.Fits.{without_ones};
+ghost use Rattle.cu_origin.specs.Pull.{counts_of_runs, has_axis};
 ghost use Rattle.cu_view_box.specs.Piece.{count_along, IsWayOver};
 ghost use Rattle.cu_view_box.specs.Way.{read_by};
 ghost use Rattle.cu_view_box.specs.declared.way.Way.TheVariants.{Fixed, Up, Down};
@@ -14,7 +14,7 @@ ghost use Rattle.cu_view.specs.View.{IsView};
 use crate::boxes::{ranges, turn};
 use crate::origins::{axis_of, counts_of_runs, has_axis};
 use cu_grid::Region;
-use cu_pull::{Axes, Pull};
+use cu_origin::{Axes, Pull};
 use cu_shape::{Dims, Run, index_of};
 use cu_view_box::Way;
 

@@ -1,6 +1,5 @@
 //! Boxes of a piece that are copied from a block of its source into a block of the result.
-ghost use Rattle.std.specs.Prelude.{◌≡◌, ◌≢◌, ◌<◌, ◌≤◌, ◌+◌, ◌-◌, ◌*◌, ◌^◌, ℕ, List, All, length, slice_index, slice_set, min};
-ghost use Rattle.cu_shape.specs.Index.{differences, product};
+ghost use Rattle.std.specs.Prelude.{◌≡◌, ◌<◌, ◌≤◌, ◌+◌, ◌-◌, All, length, slice_index, slice_set, min};
 ghost use Rattle.cu_grid.specs.Counts.{IsWithin};
 ghost use Rattle.cu_view_box.specs.Block.{IsBlock, IsMove, IsMoved, IsKept, AreSpelled, buffer_place};
 ghost use Rattle.cu_view_box.specs.Piece.{read_at, IsWayOver};

@@ -1,5 +1,5 @@
 //! Elements that are moved from evenly spaced places to evenly spaced places.
-ghost use Rattle.std.specs.Prelude.{◌≡◌, ◌<◌, ◌↔◌, ◌+◌, IsTrue};
+ghost use Rattle.std.specs.Prelude.{◌≡◌, ◌<◌, ◌↔◌, IsTrue};
 ghost use Rattle.cu_view_box.specs.Block.{AreSpelled};
 ghost use Rattle.cu_view_box.specs.Line.{IsDense, AreRowsOfLines, FitsLine, IsOneEach, AreCopied, AreConverted, AreOthersKept};
 

@@ -1,5 +1,5 @@
 //! The indices of a source that a piece reads.
-ghost use Rattle.std.specs.Prelude.{◌≡◌, ◌<◌, ◌≤◌, ◌^◌, ◌+◌, ◌-◌, ◌*◌, ℕ, List, All, length, slice_index};
+ghost use Rattle.std.specs.Prelude.{◌≡◌, ◌<◌, ◌^◌, ◌-◌, ℕ, List, All, length, slice_index};
 ghost use Rattle.cu_shape.specs.Index.{differences, IsInside};
 ghost use Rattle.cu_grid.specs.Counts.{IsRegion, IsWithin};
 ghost use Rattle.cu_view_box.specs.Piece.{read_at, IsWayOver, count_along};

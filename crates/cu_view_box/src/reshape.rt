@@ -1,8 +1,8 @@
 //! What a reshape reads of its source over regions of its result.
-ghost use Rattle.std.specs.Prelude.{◌≡◌, ◌≢◌, ◌<◌, ◌≤◌, ◌+◌, ◌-◌, ◌^◌, ℕ, List, IsTrue, IfSome, length, slice_index};
+ghost use Rattle.std.specs.Prelude.{◌≡◌, ◌≢◌, ◌<◌, ◌≤◌, ◌+◌, ℕ, List, IsTrue, IfSome, length, slice_index};
 ghost use Rattle.std.specs.Bool.{OnTrue, OnFalse};
 ghost use Rattle.std.specs.Option.{IfNone};
-ghost use Rattle.cu_shape.specs.Index.{product, place_of, index_at, IsInside};
+ghost use Rattle.cu_shape.specs.Index.{IsInside};
 ghost use Rattle.cu_grid.specs.Counts.{IsRegion, IsWithin};
 ghost use Rattle.cu_view_box.specs.Reshape.{reshaped, IsReshape, IsBetweenUpToDifference, IsMet, MeetsRun};
 

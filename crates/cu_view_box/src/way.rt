@@ -1,4 +1,4 @@
-ghost use Rattle.std.specs.Prelude.{◌≡◌, ◌<◌, ◌≤◌, ◌↔◌, ◌+◌, ◌-◌, ◌*◌, ◌^◌, ℕ, min};
+ghost use Rattle.std.specs.Prelude.{◌≡◌, ◌<◌, ◌≤◌, ◌↔◌, ◌*◌, ◌^◌, ℕ, min};
 ghost use Rattle.cu_view_box.specs.Way.{IsWay, IsInInterval, IsRead};
 ghost use Rattle.cu_view_box.specs.declared.way.Way.TheVariants.{Fixed, Up, Down};
 

@@ -21,7 +21,7 @@ use Rattle.cu_op.proofs.TaskCells.{fit_of, read_array, task_for, written_cell}
 use Rattle.cu_region.specs.Passes.{IsLaterIn}
 use Rattle.cu_task.specs.Serving.{ServesPlan, HasSeenInputs, HasSeenOutputs}
 use Rattle.cu_task.specs.Task.{calls_of}
-use Rattle.cu_state.proofs.Reading.{input_or_made}
+use Rattle.cu_run_law.proofs.Reading.{input_or_made}
 use Rattle.cu_table.specs.declared.state.RunningCopy.{RunningCopy}
 use Rattle.cu_table.specs.declared.state.TaskState.{TaskState}
 use Rattle.cu_table.specs.declared.state.Ending.{Ending}

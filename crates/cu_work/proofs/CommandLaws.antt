@@ -20,9 +20,9 @@ use Rattle.cu_op.specs.Walks.{written_chunks}
 use Rattle.cu_op.proofs.CellsOfTasks.{map_contains}
 use Rattle.cu_op.proofs.Plans.{grid_ok}
 use Rattle.cu_op.proofs.TaskCells.{task_for, written_cell}
-use Rattle.cu_state.specs.Left.{IsLeft, RunChange}
-use Rattle.cu_state.specs.Pieces.{PlanRun, Piece, Text, Chunk, IsPiece, piece_key, piece_value, IsInputChunk}
-use Rattle.cu_state.proofs.Reading.{input_or_made}
+use Rattle.cu_run_law.specs.Left.{IsLeft, RunChange}
+use Rattle.cu_run_law.specs.Pieces.{PlanRun, Piece, Text, Chunk, IsPiece, piece_key, piece_value, IsInputChunk}
+use Rattle.cu_run_law.proofs.Reading.{input_or_made}
 use Rattle.cu_work.specs.declared.run.Texts.{Texts}
 use Rattle.cu_work.specs.Commands.{CommandChange, AreCommands}
 use Rattle.cu_work.specs.Order.{task_keys, operation_keys, plan_keys}

@@ -7,8 +7,8 @@ use Rattle.cu_store.specs.Faults.{last_count}
 use Rattle.std.specs.List.{list_any}
 use Rattle.cu_store.specs.Yard.{Known, IsJoined}
 use Rattle.atomic_table.specs.Seated.{TableId}
-use Rattle.cu_turn.specs.Rule.{Each}
-use Rattle.cu_turn.specs.declared.view.KnownFront.{KnownFront}
+use Rattle.cu_lock.specs.Rule.{Each}
+use Rattle.cu_lock.specs.declared.view.KnownFront.{KnownFront}
 use Rattle.cu_work.specs.Workers.{AreWorkersOf, AreNumbered, IsWorkerOf, TookIn, front_of}
 use Rattle.cu_work.specs.declared.worker.Worker.{Worker}
 

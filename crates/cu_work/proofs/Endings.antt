@@ -11,7 +11,7 @@ use Rattle.cu_table.specs.Numbers.{IsTask}
 use Rattle.cu_table.specs.Machine.{Machine, state_at, IsDone, AllDone, opening}
 use Rattle.cu_table.specs.Step.{Settings, Run, Replays}
 use Rattle.cu_table.specs.Table.{TableView, undone_weight}
-use Rattle.cu_turn.specs.Rule.{IsKnownFront}
+use Rattle.cu_lock.specs.Rule.{IsKnownFront}
 use Rattle.cu_board.specs.Board.{IsLegal, IsSameJob, halted_fault}
 use Rattle.cu_board.specs.Views.{SeatAt}
 use Rattle.cu_work.specs.declared.outcome.Outcome.{Outcome}

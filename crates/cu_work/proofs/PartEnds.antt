@@ -12,12 +12,12 @@ use Rattle.cu_op.specs.Schedule.{op_of, key_of}
 use Rattle.cu_op.specs.Sound.{Sound, IsCell}
 use Rattle.cu_op.specs.Elements.{Elements}
 use Rattle.cu_op.proofs.TaskCells.{written_cell}
-use Rattle.cu_state.specs.Left.{IsLeft, Begun}
-use Rattle.cu_state.specs.Pieces.{chunks_alone, Chunk, HoldsPiece, HoldsTask}
-use Rattle.cu_state.proofs.Keeping.{left_kept, piece_stays, begun_since}
+use Rattle.cu_run_law.specs.Left.{IsLeft, Begun}
+use Rattle.cu_run_law.specs.Pieces.{chunks_alone, Chunk, HoldsPiece, HoldsTask}
+use Rattle.cu_run_law.proofs.Keeping.{left_kept, piece_stays, begun_since}
 use Rattle.cu_work.proofs.AskedKeys.{steps_ever}
 use Rattle.cu_work.proofs.TriedTasks.{chosen_runs}
-use Rattle.cu_state.proofs.Elements.{HaveRanges}
+use Rattle.cu_run_law.proofs.Elements.{HaveRanges}
 use Rattle.cu_work.specs.Asked.{Search, search_of, AreChosen, HasAsked, IsChosenAt, IsUnstarted, own_chunks}
 use Rattle.cu_work.specs.Ended.{HasCalled, IsPartDone, IsPartEnd, IsPartFault, count_of}
 use Rattle.cu_work.specs.Part.{IsInPart, IsPartOf, LacksChunk, PartPut}

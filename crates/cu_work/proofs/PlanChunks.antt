@@ -17,8 +17,8 @@ use Rattle.cu_op.specs.PlanView.{PlanView}
 use Rattle.cu_op.specs.Schedule.{key_of}
 use Rattle.cu_op.specs.Sound.{IsCell}
 use Rattle.cu_op.proofs.CellsOfTasks.{same_array, same_coord}
-use Rattle.cu_state.specs.Pieces.{PlanRun, Chunk, IsInputChunk, KeysApart, InputsApart}
-use Rattle.cu_state.proofs.Reading.{input_or_made}
+use Rattle.cu_run_law.specs.Pieces.{PlanRun, Chunk, IsInputChunk, KeysApart, InputsApart}
+use Rattle.cu_run_law.proofs.Reading.{input_or_made}
 use Rattle.cu_task.specs.Serving.{IsOnlyRead}
 use Rattle.cu_work.specs.Shared.{chunks_below, chunks_of_first, plan_chunks, spec_of, specs_of}
 

@@ -12,8 +12,8 @@ use Rattle.cu_op.specs.Sound.{Sound, IsCell}
 use Rattle.cu_op.specs.Elements.{Elements}
 use Rattle.cu_op.specs.Walks.{written_chunks}
 use Rattle.cu_op.proofs.TaskCells.{written_cell}
-use Rattle.cu_state.specs.Left.{IsLeft, RunChange}
-use Rattle.cu_state.specs.Pieces.{PlanRun, Chunk, HoldsTask}
+use Rattle.cu_run_law.specs.Left.{IsLeft, RunChange}
+use Rattle.cu_run_law.specs.Pieces.{PlanRun, Chunk, HoldsTask}
 use Rattle.cu_table.specs.Machine.{IsDone, opening, opened, no_task}
 use Rattle.cu_table.specs.Numbers.{IsTask, task_number}
 use Rattle.cu_work.specs.Alone.{HasSeenDone}

@@ -14,11 +14,11 @@ use Rattle.cu_op.specs.Schedule.{key_of}
 use Rattle.cu_op.specs.Elements.{Elements}
 use Rattle.cu_op.specs.Value.{stored_inputs}
 use Rattle.cu_op.proofs.Ranges.{stored_range}
-use Rattle.cu_state.specs.Left.{IsLeft, Begun, RunChange}
-use Rattle.cu_state.specs.Pieces.{PlanRun, chunks_alone, Piece, Text, Chunk, IsPiece, piece_key, piece_value, HoldsPiece, IsComplete, IsInputChunk, KeysApart}
-use Rattle.cu_state.proofs.Alike.{chunks_alike}
-use Rattle.cu_state.proofs.Keeping.{left_kept, piece_stays, begun_since, left_alone, change_alone}
-use Rattle.cu_state.proofs.Reading.{all_held}
+use Rattle.cu_run_law.specs.Left.{IsLeft, Begun, RunChange}
+use Rattle.cu_run_law.specs.Pieces.{PlanRun, chunks_alone, Piece, Text, Chunk, IsPiece, piece_key, piece_value, HoldsPiece, IsComplete, IsInputChunk, KeysApart}
+use Rattle.cu_run_law.proofs.Alike.{chunks_alike}
+use Rattle.cu_run_law.proofs.Keeping.{left_kept, piece_stays, begun_since, left_alone, change_alone}
+use Rattle.cu_run_law.proofs.Reading.{all_held}
 use Rattle.cu_table.specs.Machine.{AllDone}
 use Rattle.cu_table.specs.Table.{TableView}
 use Rattle.cu_work.specs.declared.outcome.Outcome.{Outcome}

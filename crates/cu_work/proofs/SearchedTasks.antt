@@ -11,8 +11,8 @@ use Rattle.cu_store.proofs.Steps.{steps_same, steps_wider}
 use Rattle.cu_op.specs.Cells.{tasks_of}
 use Rattle.cu_op.specs.PlanView.{PlanView}
 use Rattle.cu_op.specs.Schedule.{op_of}
-use Rattle.cu_state.specs.Left.{IsTaskBefore}
-use Rattle.cu_state.specs.Pieces.{chunks_alone}
+use Rattle.cu_run_law.specs.Left.{IsTaskBefore}
+use Rattle.cu_run_law.specs.Pieces.{chunks_alone}
 use Rattle.cu_table.specs.Numbers.{IsTask, task_count, task_number}
 use Rattle.cu_table.proofs.Numbers.{number_below, number_once}
 use Rattle.cu_work.specs.declared.find.FindFault.{FindFault}

@@ -26,10 +26,10 @@ use Rattle.cu_op.specs.Value.{stored_inputs}
 use Rattle.cu_op.proofs.Plans.{grid_ok}
 use Rattle.cu_op.proofs.TaskCells.{written_cell}
 use Rattle.cu_region.specs.Steady.{HoldsLength}
-use Rattle.cu_state.specs.Left.{IsLeft, RunChange}
-use Rattle.cu_state.specs.Pieces.{PlanRun, chunks_alone, Chunk, HoldsPiece, KeysApart, InputsApart}
-use Rattle.cu_state.proofs.Alike.{chunks_alike}
-use Rattle.cu_state.proofs.Keeping.{left_kept}
+use Rattle.cu_run_law.specs.Left.{IsLeft, RunChange}
+use Rattle.cu_run_law.specs.Pieces.{PlanRun, chunks_alone, Chunk, HoldsPiece, KeysApart, InputsApart}
+use Rattle.cu_run_law.proofs.Alike.{chunks_alike}
+use Rattle.cu_run_law.proofs.Keeping.{left_kept}
 use Rattle.cu_task.specs.Serving.{ServesPlan, PromisesValues, IsBadOfInput}
 use Rattle.cu_table.specs.Machine.{opening}
 use Rattle.cu_table.specs.Numbers.{task_count, task_number}

@@ -21,11 +21,11 @@ use Rattle.cu_op.specs.Value.{plan_value}
 use Rattle.cu_op.specs.Walks.{read_chunks, written_chunks}
 use Rattle.cu_op.proofs.TaskCells.{fit_of, read_array, written_cell}
 use Rattle.cu_region.specs.Steady.{HoldsLength}
-use Rattle.cu_state.specs.Left.{IsLeft, Begun, RunChange}
-use Rattle.cu_state.specs.Pieces.{chunks_alone, Chunk, IsInputChunk, HoldsPiece, HoldsTask, piece_value}
-use Rattle.cu_state.proofs.Elements.{HaveRanges}
-use Rattle.cu_state.proofs.Keeping.{left_kept, piece_stays, begun_since}
-use Rattle.cu_state.proofs.Reading.{input_or_made, not_none, task_ready}
+use Rattle.cu_run_law.specs.Left.{IsLeft, Begun, RunChange}
+use Rattle.cu_run_law.specs.Pieces.{chunks_alone, Chunk, IsInputChunk, HoldsPiece, HoldsTask, piece_value}
+use Rattle.cu_run_law.proofs.Elements.{HaveRanges}
+use Rattle.cu_run_law.proofs.Keeping.{left_kept, piece_stays, begun_since}
+use Rattle.cu_run_law.proofs.Reading.{input_or_made, not_none, task_ready}
 use Rattle.cu_task.specs.Task.{TaskChange, HoldsCells, IsTaskReady, IsTaskFault, calls_of}
 use Rattle.cu_work.specs.Calls.{sum_below}
 use Rattle.cu_work.proofs.Searching.{Fills, held_stays}

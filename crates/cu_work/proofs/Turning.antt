@@ -26,8 +26,8 @@ use Rattle.cu_table.specs.Machine.{Machine, IsDone, MakesInput, AreInputsDone, n
 use Rattle.cu_table.specs.Own.{left_running}
 use Rattle.cu_table.specs.Step.{Settings, Halts}
 use Rattle.cu_table.specs.Table.{TableView, start_event, end_of, report_kind, is_late}
-use Rattle.cu_turn.specs.declared.view.SeatView.{SeatView}
-use Rattle.cu_turn.proofs.Fronts.{own-append}
+use Rattle.cu_lock.specs.declared.view.SeatView.{SeatView}
+use Rattle.cu_lock.proofs.Fronts.{own-append}
 use Rattle.atomic_table.specs.Seated.{TableId}
 use Rattle.cu_board.specs.Views.{SeatAt}
 use Rattle.cu_board.specs.Board.{SeesDone, IsBadEntry, MayReport, LeavesCount, IsCauseOf, IsResting, IsRunning, IsTurnOf, IsTableLeft, IsClaimTurn, IsReportTurn}

@@ -20,7 +20,7 @@ use Rattle.cu_table.specs.Machine.{Machine, opening}
 use Rattle.cu_table.specs.Own.{left_running, running_of}
 use Rattle.cu_table.specs.Step.{Settings, Replays}
 use Rattle.cu_table.specs.Table.{TableView}
-use Rattle.cu_turn.specs.Rule.{AllBelow, IsKnownFront}
+use Rattle.cu_lock.specs.Rule.{AllBelow, IsKnownFront}
 use Rattle.cu_board.specs.Board.{IsBadEntry, IsCauseOf, IsBoardState, IsLegal, IsSameJob, halted_fault}
 use Rattle.cu_board.specs.Views.{SeatAt}
 use Rattle.cu_board.proofs.Passes.{cause_same}

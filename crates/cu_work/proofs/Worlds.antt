@@ -19,12 +19,12 @@ use Rattle.cu_op.proofs.Plans.{grid_ok}
 use Rattle.cu_op.proofs.TaskCells.{fit_of, read_array, task_for, written_cell, ready_rule}
 use Rattle.cu_op.proofs.Spellings.{spelled_alike}
 use Rattle.cu_op.proofs.Values.{value_solves}
-use Rattle.cu_state.specs.Left.{IsLeft, Begun}
-use Rattle.cu_state.specs.Pieces.{chunks_alone, Chunk, HoldsPiece, HoldsTask, IsComplete}
-use Rattle.cu_state.proofs.Elements.{HaveRanges}
-use Rattle.cu_state.proofs.Keeping.{left_kept, piece_stays}
+use Rattle.cu_run_law.specs.Left.{IsLeft, Begun}
+use Rattle.cu_run_law.specs.Pieces.{chunks_alone, Chunk, HoldsPiece, HoldsTask, IsComplete}
+use Rattle.cu_run_law.proofs.Elements.{HaveRanges}
+use Rattle.cu_run_law.proofs.Keeping.{left_kept, piece_stays}
 use Rattle.cu_shape.specs.Index.{IsInside}
-use Rattle.cu_state.proofs.Reading.{task_ready, input_or_made, not_none, all_held, elements_held}
+use Rattle.cu_run_law.proofs.Reading.{task_ready, input_or_made, not_none, all_held, elements_held}
 use Rattle.cu_history.specs.declared.entry.Entry.{Entry}
 use Rattle.cu_history.specs.declared.entry.EventKind.{EventKind}
 use Rattle.cu_history.specs.declared.entry.EventKind.TheVariants.{Start, Done, Failed, Halt, Late}

@@ -1,8 +1,8 @@
 -- What the commands of one plan change: a run and a run that goes on put values of pieces, and dropping removes pieces. This project's own rules.
 use Rattle.std.specs.Prelude.{◌≡◌, ◌⊎◌, ℕ, List, [], ◌∷◌, None}
 use Rattle.cu_store.specs.Steps.{Shown, Changes, Steps}
-use Rattle.cu_state.specs.Left.{RunChange}
-use Rattle.cu_state.specs.Pieces.{PlanRun, Piece, IsPiece, piece_key}
+use Rattle.cu_run_law.specs.Left.{RunChange}
+use Rattle.cu_run_law.specs.Pieces.{PlanRun, Piece, IsPiece, piece_key}
 
 -- a piece is removed
 abbrev pub PieceRemoval : PlanRun → Changes

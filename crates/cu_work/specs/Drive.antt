@@ -8,7 +8,7 @@ use Rattle.cu_op.specs.PlanView.{PlanView}
 use Rattle.cu_op.specs.Schedule.{op_of, key_of}
 use Rattle.cu_op.specs.Walks.{read_chunks}
 use Rattle.cu_region.specs.Steady.{HoldsLength}
-use Rattle.cu_state.specs.Pieces.{IsInputChunk}
+use Rattle.cu_run_law.specs.Pieces.{IsInputChunk}
 use Rattle.cu_task.specs.Task.{calls_of}
 
 -- no task of the plan makes more calls than these at one try

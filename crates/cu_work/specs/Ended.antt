@@ -3,8 +3,8 @@ use Rattle.std.specs.Prelude.{◌≡◌, ◌⊎◌, ℕ, ◌+◌, ◌*◌, ◌-�
 use Rattle.cu_store.specs.Faults.{Rose, last_count}
 use Rattle.cu_store.specs.Steps.{Shown, NoChange, Steps}
 use Rattle.cu_op.specs.Elements.{Elements}
-use Rattle.cu_state.specs.Left.{IsLeft}
-use Rattle.cu_state.specs.Pieces.{chunks_alone, HoldsTask}
+use Rattle.cu_run_law.specs.Left.{IsLeft}
+use Rattle.cu_run_law.specs.Pieces.{chunks_alone, HoldsTask}
 use Rattle.cu_work.specs.Part.{IsInPart, LacksChunk, PartPut}
 use Rattle.cu_work.specs.Asked.{Search, AllDiffer, AreChosen, IsChosenAt, IsSoughtInput, IsUnstarted, own_chunks}
 use Rattle.cu_work.specs.Tried.{AreStarts, IsBadOf, chosen_calls}

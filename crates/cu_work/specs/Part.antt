@@ -10,8 +10,8 @@ use Rattle.cu_op.specs.PlanView.{PlanView}
 use Rattle.cu_op.specs.Schedule.{op_of, key_of, cell_value}
 use Rattle.cu_op.specs.Elements.{Elements}
 use Rattle.cu_op.specs.Walks.{read_chunks, written_chunks}
-use Rattle.cu_state.specs.Left.{IsLeft}
-use Rattle.cu_state.specs.Pieces.{chunks_alone}
+use Rattle.cu_run_law.specs.Left.{IsLeft}
+use Rattle.cu_run_law.specs.Pieces.{chunks_alone}
 use Rattle.cu_work.specs.World.{IsStored}
 use Rattle.cu_work.specs.declared.part.Part.{Part}
 

@@ -7,7 +7,7 @@ use Rattle.cu_store.specs.declared.faults.DepotFault.{DepotFault}
 use Rattle.cu_store.specs.declared.faults.DepotFault.TheVariants as depot
 use Rattle.cu_op.specs.PlanView.{PlanView}
 use Rattle.cu_op.specs.Elements.{Elements}
-use Rattle.cu_state.specs.Pieces.{PlanRun, Text, text_at, HoldsPiece}
+use Rattle.cu_run_law.specs.Pieces.{PlanRun, Text, text_at, HoldsPiece}
 use Rattle.cu_work.specs.declared.run.HeldTexts.{HeldTexts}
 use Rattle.cu_work.specs.declared.run.HeldTexts.TheVariants.{Neither, Record, Both}
 use Rattle.cu_work.specs.declared.run.Texts.{Texts}

@@ -4,8 +4,8 @@ use Rattle.cu_store.specs.Held.{Contents, IsHeldIn}
 use Rattle.cu_store.specs.Steps.{Shown, NoChange, Steps}
 use Rattle.cu_store.specs.declared.faults.DepotFault.TheVariants as depot
 use Rattle.cu_op.specs.PlanView.{PlanView}
-use Rattle.cu_state.specs.Left.{IsTaskBefore}
-use Rattle.cu_state.specs.Pieces.{chunks_alone}
+use Rattle.cu_run_law.specs.Left.{IsTaskBefore}
+use Rattle.cu_run_law.specs.Pieces.{chunks_alone}
 use Rattle.cu_table.specs.Numbers.{IsTask, task_count, task_number}
 use Rattle.cu_work.specs.Ends.{NoneOf, EndsAt}
 use Rattle.cu_work.specs.Order.{operation_keys, plan_keys}

@@ -16,8 +16,8 @@ use Rattle.cu_op.specs.PlanView.{PlanView}
 use Rattle.cu_op.specs.Schedule.{key_of, cell_value}
 use Rattle.cu_op.specs.Elements.{Elements}
 use Rattle.cu_op.specs.Value.{stored_inputs}
-use Rattle.cu_state.specs.Left.{IsLeft}
-use Rattle.cu_state.specs.Pieces.{PlanRun, HoldsTask}
+use Rattle.cu_run_law.specs.Left.{IsLeft}
+use Rattle.cu_run_law.specs.Pieces.{PlanRun, HoldsTask}
 use Rattle.cu_table.specs.Machine.{Machine, IsDone, opening}
 use Rattle.cu_table.specs.Numbers.{IsTask, task_count}
 use Rattle.cu_table.specs.Step.{Replays}

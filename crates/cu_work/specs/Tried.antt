@@ -8,8 +8,8 @@ use Rattle.cu_store.specs.declared.faults.TaskFault.TheVariants as task
 use Rattle.cu_op.specs.PlanView.{PlanView}
 use Rattle.cu_op.specs.Schedule.{op_of}
 use Rattle.cu_op.specs.Elements.{Elements}
-use Rattle.cu_state.specs.Left.{IsLeft}
-use Rattle.cu_state.specs.Pieces.{chunks_alone, HoldsTask}
+use Rattle.cu_run_law.specs.Left.{IsLeft}
+use Rattle.cu_run_law.specs.Pieces.{chunks_alone, HoldsTask}
 use Rattle.cu_task.specs.Task.{calls_of}
 use Rattle.cu_work.specs.Calls.{sum_below}
 use Rattle.cu_work.specs.Drive.{IsBadChunk, IsInputKey}

@@ -12,8 +12,8 @@ use Rattle.cu_region.specs.Passes.{IsLaterIn}
 use Rattle.cu_table.specs.declared.state.Ending.TheVariants.{Halted}
 use Rattle.cu_table.specs.Step.{Replays}
 use Rattle.cu_table.specs.Table.{TableView}
-use Rattle.cu_turn.specs.declared.view.SeatView.{SeatView}
-use Rattle.cu_turn.specs.declared.view.KnownFront.{KnownFront}
+use Rattle.cu_lock.specs.declared.view.SeatView.{SeatView}
+use Rattle.cu_lock.specs.declared.view.KnownFront.{KnownFront}
 use Rattle.cu_board.specs.Board.{IsLegal, IsSameJob, IsResting, IsCauseOf, halted_fault}
 use Rattle.cu_board.specs.Views.{SeatAt, IsSeatOf}
 use Rattle.cu_work.specs.Alone.{IsDecided, HasSeenDone}

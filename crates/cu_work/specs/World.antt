@@ -12,8 +12,8 @@ use Rattle.cu_op.specs.Value.{rule, stored_inputs}
 use Rattle.cu_op.specs.InputCells.{input_cells}
 use Rattle.cu_op.specs.Walks.{written_chunks}
 use Rattle.cu_op.specs.declared.cells.Cell.{Cell}
-use Rattle.cu_state.specs.Left.{IsLeft}
-use Rattle.cu_state.specs.Pieces.{chunks_alone, Chunk, HoldsPiece, HoldsTask}
+use Rattle.cu_run_law.specs.Left.{IsLeft}
+use Rattle.cu_run_law.specs.Pieces.{chunks_alone, Chunk, HoldsPiece, HoldsTask}
 use Rattle.cu_history.specs.declared.entry.Entry.{Entry}
 use Rattle.cu_history.specs.declared.entry.EventKind.{EventKind}
 use Rattle.cu_history.specs.declared.entry.EventKind.TheVariants.{Start, Done}

@@ -1,10 +1,8 @@
 //! One worker runs the tasks of a plan in a yard, as a table gives them.
 ghost use Rattle.std.specs.Prelude.{◌≡◌, ◌+◌, ◌*◌, ◌<◌, ◌≤◌, [], length};
-ghost use Rattle.cu_store.specs.Yard.{shown_by};
 ghost use Rattle.cu_op.specs.Cells.{tasks_of};
 ghost use Rattle.cu_op.specs.Schedule.{op_of};
 ghost use Rattle.cu_task.specs.Serving.{ServesPlan, HasSeenInputs};
-ghost use Rattle.cu_table.specs.Table.{TableView};
 ghost use Rattle.cu_work.specs.Alone.{HasRun, HasSeenDone, IsDecided, Tried, halt_outcome};
 ghost use Rattle.cu_work.specs.Calls.{calls_of_tasks};
 ghost use Rattle.cu_work.specs.Rooms.{rooms_of};

@@ -1,6 +1,6 @@
 //! What is asked for before the first task of a part is started: which of its tasks lack a chunk, and
 //! whether these have what they read.
-ghost use Rattle.std.specs.Prelude.{◌≡◌, ◌≢◌, ◌+◌, ◌*◌, ◌-◌, ◌<◌, ◌||◌, ℕ, IsTrue, false, None, List, length, Contains, IfOk, IfErr, OnOk, bytes_eq};
+ghost use Rattle.std.specs.Prelude.{◌≡◌, ◌≢◌, ◌+◌, ◌||◌, ℕ, IsTrue, false, None, List, length, Contains, IfOk, IfErr, OnOk, bytes_eq};
 ghost use Rattle.std.specs.HashSet.{contains_text};
 ghost use Rattle.cu_store.specs.Faults.{last_count};
 ghost use Rattle.cu_store.specs.Held.{IsHeldIn};

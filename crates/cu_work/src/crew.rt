@@ -1,11 +1,10 @@
 //! The workers of a run, from the root's splits to the table that comes back.
-ghost use Rattle.std.specs.Prelude.{◌≡◌, ℕ, ◌<◌, ◌^◌, true, false, [], map, length, vec_len, All, Contains, IfOk, IfErr, slice_index_or, ◌≤◌};
-ghost use Rattle.cu_store.specs.Yard.{Known, uncounted};
+ghost use Rattle.std.specs.Prelude.{◌≡◌, ℕ, ◌<◌, ◌^◌, map, length, vec_len, All, IfOk, IfErr, slice_index_or};
+ghost use Rattle.cu_store.specs.Yard.{uncounted};
 ghost use Rattle.cu_op.specs.PlanView.{PlanView};
-ghost use Rattle.cu_turn.specs.Rule.{IsKnownFront, AllBelow};
-ghost use Rattle.cu_turn.specs.Views.{first_root};
+ghost use Rattle.cu_lock.specs.Rule.{IsKnownFront, AllBelow};
+ghost use Rattle.cu_lock.specs.Views.{first_root};
 ghost use Rattle.cu_board.specs.Board.{IsBoardState, halted_fault};
-ghost use Rattle.cu_board.specs.Views.{SeatAt, BoardView};
 ghost use Rattle.cu_work.specs.Rooms.{rooms_of};
 ghost use Rattle.cu_work.specs.Workers.{AreWorkersOf, AreNumbered, HaveRooms, IsRootOf, TookIn, front_of};
 

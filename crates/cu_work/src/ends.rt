@@ -1,7 +1,7 @@
 //! What a worker found at its end holds of the whole run.
 ghost use Rattle.cu_store.specs.Yard.{Known};
 ghost use Rattle.cu_table.specs.Table.{TableView};
-ghost use Rattle.cu_turn.specs.Rule.{IsKnownFront};
+ghost use Rattle.cu_lock.specs.Rule.{IsKnownFront};
 ghost use Rattle.cu_board.specs.Board.{IsLegal, IsSameJob, halted_fault};
 ghost use Rattle.cu_board.specs.Views.{SeatAt};
 ghost use Rattle.cu_work.specs.declared.outcome.Outcome.{Outcome};

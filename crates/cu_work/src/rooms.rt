@@ -1,6 +1,5 @@
 //! The memory that tasks are lent.
-ghost use Rattle.std.specs.Prelude.{◌≡◌, ◌+◌, ◌*◌, ◌<◌, IfOk, length};
-ghost use Rattle.cu_op.specs.PlanView.{operation_at};
+ghost use Rattle.std.specs.Prelude.{◌≡◌, ◌<◌, IfOk, length};
 ghost use Rattle.cu_op.specs.Schedule.{op_of};
 ghost use Rattle.cu_work.specs.Rooms.{task_bytes, task_words, rooms_of};
 

@@ -2,7 +2,6 @@
 ghost use Rattle.std.specs.Prelude.{◌≡◌, ℕ, ◌+◌, ◌*◌, ◌<◌, ◌≤◌, ◌^◌, [], All, IfOk, IfErr, vec_len};
 ghost use Rattle.cu_history.specs.History.{is_start, count_kind};
 ghost use Rattle.cu_task.specs.Serving.{ServesPlan};
-ghost use Rattle.cu_table.specs.Table.{TableView};
 ghost use Rattle.cu_work.specs.Alone.{HasSeenDone, IsDecided};
 ghost use Rattle.cu_work.specs.Drive.{IsTaskMost};
 ghost use Rattle.cu_work.specs.Calls.{calls_of_tasks};

@@ -1,11 +1,11 @@
 //! The tasks of a part that were chosen, one after another.
-ghost use Rattle.std.specs.Prelude.{◌≡◌, ◌+◌, ◌*◌, ◌<◌, ◌≤◌, ℕ, IfErr, IfOk, OnOk, length};
+ghost use Rattle.std.specs.Prelude.{◌≡◌, ◌+◌, ◌*◌, ◌<◌, ◌≤◌, IfErr, IfOk, OnOk, length};
 ghost use Rattle.cu_store.specs.Steps.{Shown, Steps};
 ghost use Rattle.cu_op.specs.Cells.{tasks_of};
 ghost use Rattle.cu_op.specs.Schedule.{op_of};
 ghost use Rattle.cu_op.specs.Elements.{Elements};
-ghost use Rattle.cu_state.specs.Left.{IsLeft};
-ghost use Rattle.cu_state.specs.Pieces.{chunks_alone, HoldsTask};
+ghost use Rattle.cu_run_law.specs.Left.{IsLeft};
+ghost use Rattle.cu_run_law.specs.Pieces.{chunks_alone, HoldsTask};
 ghost use Rattle.cu_task.specs.Task.{TaskChange, HoldsCells, IsTaskReady, IsTaskFault, calls_of};
 ghost use Rattle.cu_work.specs.Asked.{AreChosen};
 ghost use Rattle.cu_work.specs.Ended.{count_of};

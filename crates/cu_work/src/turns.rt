@@ -1,13 +1,10 @@
 //! Many workers run the tasks of a plan in a yard, as a board gives them.
-ghost use Rattle.std.specs.Prelude.{◌≡◌, ℕ, ◌<◌, false, [], length, All, slice_index_or};
-ghost use Rattle.cu_op.specs.Sound.{Sound};
+ghost use Rattle.std.specs.Prelude.{◌≡◌, ℕ, ◌<◌, length, slice_index_or};
 ghost use Rattle.cu_region.specs.Passes.{IsLaterIn};
 ghost use Rattle.cu_task.specs.Serving.{ServesPlan, HasSeenInputs};
 ghost use Rattle.cu_table.specs.Numbers.{IsTask};
-ghost use Rattle.cu_board.specs.Board.{MayReport, IsResting};
-ghost use Rattle.cu_board.specs.Views.{SeatAt, BoardView};
+ghost use Rattle.cu_board.specs.Board.{MayReport};
 ghost use Rattle.cu_work.specs.Rooms.{rooms_of};
-ghost use Rattle.cu_work.specs.Alone.{Tried};
 ghost use Rattle.cu_work.specs.Workers.{IsWorkerOf, KnowsEnd, AreWorkersOf, AreNumbered, HaveRooms};
 
 use crate::alone::{halt_outcome, try_in_yard};

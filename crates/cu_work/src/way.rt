@@ -2,7 +2,6 @@
 ghost use Rattle.std.specs.Prelude.{◌≡◌, ◌+◌, ◌<◌, ◌++◌, ◌∷◌, [], length};
 ghost use Rattle.cu_op.specs.Cells.{tasks_of, IsChunk};
 ghost use Rattle.cu_op.specs.Schedule.{op_of, key_of};
-ghost use Rattle.cu_op.specs.Sound.{Sound};
 ghost use Rattle.cu_work.specs.Order.{task_keys, operation_keys, plan_keys, IsAsked};
 
 use cu_codec::chunk_key;

@@ -18,8 +18,8 @@ use Rattle.cu_op.specs.Partial.{partial_indices, chunk_groups}
 use Rattle.cu_op.specs.Walks.{IsWalkOver}
 use Rattle.cu_op.specs.Reductions.{partial_walk}
 use Rattle.cu_op.specs.declared.layout.ArrayInfo.{ArrayInfo}
-use Rattle.cu_pull.specs.Pull.{has_axis}
-use Rattle.cu_pull.specs.declared.axes.Axes.{Axes}
+use Rattle.cu_origin.specs.Pull.{has_axis}
+use Rattle.cu_origin.specs.declared.axes.Axes.{Axes}
 use Rattle.cu_reduce.specs.Folds.{reduced_to}
 use Rattle.cu_reduce.specs.Groups.{group_indices, group_of}
 use Rattle.std.proofs.Common.{ℕ, List, [], ◌∷◌, All, refl, sym, arith, map, ap}

@@ -18,13 +18,13 @@ use Rattle.cu_op.specs.Kind.Pull.{pull_kind, shapes_at, origin_at, Converts, Pul
 use Rattle.cu_op.specs.Elements.{Elements}
 use Rattle.cu_op.specs.Walks.{IsWalkOver}
 use Rattle.cu_op.specs.declared.layout.ArrayInfo.{ArrayInfo}
-use Rattle.cu_pull.proofs.OriginsInside.{inside_sources}
-use Rattle.cu_pull.specs.Fits.{FitsPull}
-use Rattle.cu_pull.specs.Pull.{origin_of, IsInSources}
-use Rattle.cu_pull.specs.declared.provenance.Provenance.{Provenance}
-use Rattle.cu_pull.specs.declared.provenance.Provenance.TheVariants.{From, Const as Number}
-use Rattle.cu_pull.specs.declared.pull.Pull.{Pull as View}
-use Rattle.cu_pull.specs.declared.pull.Pull.TheVariants.{Concat, Stack}
+use Rattle.cu_origin.proofs.OriginsInside.{inside_sources}
+use Rattle.cu_origin.specs.Fits.{FitsPull}
+use Rattle.cu_origin.specs.Pull.{origin_of, IsInSources}
+use Rattle.cu_origin.specs.declared.provenance.Provenance.{Provenance}
+use Rattle.cu_origin.specs.declared.provenance.Provenance.TheVariants.{From, Const as Number}
+use Rattle.cu_origin.specs.declared.pull.Pull.{Pull as View}
+use Rattle.cu_origin.specs.declared.pull.Pull.TheVariants.{Concat, Stack}
 use Rattle.cu_shape.specs.Index.{IsInside}
 use Rattle.std.proofs.Common.{◌≡◌, ℕ, List, [], All, Contains, Option, Some, get_or, refl, sym, ◌∙◌, subst, arith, ℤ, map, ap}
 use Rattle.std.proofs.lemmas.List.{get_or-map}

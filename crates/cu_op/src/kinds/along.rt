@@ -1,5 +1,5 @@
 //! The regions that carries and scans read, which go along one axis.
-ghost use Rattle.std.specs.Prelude.{◌≡◌, ℕ, ◌<◌, ◌≤◌, ◌∷◌, Some, length, pred, slice_index};
+ghost use Rattle.std.specs.Prelude.{◌≡◌, ℕ, ◌<◌, ◌∷◌, Some, length, pred, slice_index};
 ghost use Rattle.cu_op.specs.Along.{carried_room, carried_walks, chunk_on, group_walk};
 ghost use Rattle.cu_op.specs.Arrays.{grid_at};
 

@@ -1,8 +1,7 @@
 //! The regions that a fold by labels reads.
-ghost use Rattle.std.specs.Prelude.{◌≡◌, ◌^◌, ◌*◌, ◌<◌, ◌≤◌, ◌∷◌, [], length, slice_index};
-ghost use Rattle.cu_grid.specs.Grid.{RegularGrid};
+ghost use Rattle.std.specs.Prelude.{◌≡◌, ◌^◌, ◌*◌, ◌<◌, ◌∷◌, [], length, slice_index};
 ghost use Rattle.cu_op.specs.Arrays.{grid_at};
-ghost use Rattle.cu_op.specs.Grouping.{end_of, first_of, first_place, grouped_walk, label_part, labels_walk, IsPartRegion};
+ghost use Rattle.cu_op.specs.Grouping.{end_of, first_of, first_place, grouped_walk, labels_walk, IsPartRegion};
 
 use crate::layout::{ArrayInfo, grid_of};
 use crate::walks::Walk;

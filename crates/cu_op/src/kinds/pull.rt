@@ -7,7 +7,7 @@ use crate::layout::ArrayInfo;
 use crate::walks::Walk;
 use arrayvec::ArrayVec;
 use cu_grid::Region;
-use cu_pull::Pull;
+use cu_origin::Pull;
 
 /// The whole of each of these arrays.
 pub(crate) fn whole_walks(arrays: &[ArrayInfo], numbers: &[u32]) -> ArrayVec<Walk, 8>

@@ -1,7 +1,7 @@
 use Rattle.std.proofs.Common.{◌+◌, List, [], ◌∷◌, ap, sym, ◌∙◌, subst}
 use Rattle.cu_expr.specs.declared.inputs.InputInfo.{InputInfo}
 use Rattle.cu_mean.specs.Whole.{HoldInputs}
-use Rattle.cu_meaning.specs.Argument.{NodeElements}
+use Rattle.cu_semantics.specs.Argument.{NodeElements}
 use Rattle.cu_shape.specs.Index.{product}
 use Rattle.cu_store.specs.Steps.{NoChange}
 use Rattle.cu_command.proofs.SeenLemmas.{stepped_same, stepped_then}

@@ -1,5 +1,5 @@
 use Rattle.std.proofs.Common.{◌+◌, length, List, ap, sym, ◌∙◌}
-use Rattle.cu_pull.specs.declared.axes.Axes.{Axes}
+use Rattle.cu_origin.specs.declared.axes.Axes.{Axes}
 use Rattle.cu_tree.specs.Partials.{reduction_rounds}
 use Rattle.cu_tree.specs.declared.round.Round.{Round}
 use Rattle.cu_lower_reduce.proofs.Firsts.{search_count}

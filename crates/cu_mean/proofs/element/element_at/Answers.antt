@@ -3,7 +3,7 @@ use mir.Val.{SFits}
 use Rattle.std.specs.Int.{w64, w128}
 use Rattle.std.proofs.lemmas.Int.{to_z-of_z}
 use Rattle.cu_form.specs.declared.form.Form.{Form}
-use Rattle.cu_meaning.specs.Rule.{rule_of}
+use Rattle.cu_semantics.specs.Rule.{rule_of}
 use Rattle.cu_mean.specs.Reading.{elements_in}
 use Rattle.cu_mean.proofs.element.element_at.Goals as goal
 

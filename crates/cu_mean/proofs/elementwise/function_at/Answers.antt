@@ -2,7 +2,7 @@ use Rattle.std.proofs.Common.{map, sym, ap, ◌∙◌, arith}
 use Rattle.std.specs.Int.{w128}
 use Rattle.std.proofs.lemmas.Int.{to_z-of_z}
 use Rattle.cu_form.specs.declared.args.Arg.{Arg}
-use Rattle.cu_meaning.specs.Rule.{function_value}
+use Rattle.cu_semantics.specs.Rule.{function_value}
 use Rattle.cu_typing.specs.Types.{typed_elements}
 use Rattle.cu_expr.specs.Typing.{argument_of}
 use Rattle.cu_mean.specs.Elementwise.{argument_in}

@@ -3,7 +3,7 @@ use Rattle.std.specs.Int.{w128}
 use Rattle.std.specs.List.{range_with_len}
 use Rattle.std.proofs.lemmas.Int.{to_z-of_z}
 use Rattle.cu_num.specs.Wrap.{wrapped}
-use Rattle.cu_meaning.specs.Along.{along}
+use Rattle.cu_semantics.specs.Along.{along}
 use Rattle.cu_reduce.specs.Labels.{grouped_at}
 use Rattle.cu_mean.specs.Grouped.{HasKept}
 use Rattle.cu_mean.specs.Reading.{named_element}

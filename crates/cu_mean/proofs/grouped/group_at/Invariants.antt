@@ -1,5 +1,5 @@
 use Rattle.std.proofs.Common.{[], ◌∷◌}
-use Rattle.cu_meaning.specs.Along.{along}
+use Rattle.cu_semantics.specs.Along.{along}
 use Rattle.cu_mean.specs.Grouped.{HasKept}
 use Rattle.cu_mean.specs.Reading.{named_element}
 use Rattle.cu_mean.proofs.LabelledPlaces.{members_from}

@@ -1,5 +1,5 @@
 use Rattle.std.proofs.Common.{◌≡◌, drop}
-use Rattle.cu_meaning.specs.View.{indexed}
+use Rattle.cu_semantics.specs.View.{indexed}
 use Rattle.cu_mean.specs.Indexing.{read_from, IsFront}
 use Rattle.cu_mean.proofs.indexing.indexed.Given as goal
 

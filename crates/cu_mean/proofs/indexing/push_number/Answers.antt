@@ -2,7 +2,7 @@ use Rattle.std.proofs.Common.{◌≡◌, ℤ, pos, true, subst, arith}
 use Rattle.std.specs.Prelude.{int_lt}
 use Rattle.std.specs.Int.{w128}
 use Rattle.std.proofs.lemmas.Int.{to_z-of_z}
-use Rattle.cu_meaning.specs.Index.{natural}
+use Rattle.cu_semantics.specs.Index.{natural}
 use Rattle.cu_mean.proofs.IndexEntries.{longer, outside_big, natural_big}
 use Rattle.cu_mean.proofs.indexing.push_number.Goals as goal
 

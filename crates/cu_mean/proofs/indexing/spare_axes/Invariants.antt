@@ -1,5 +1,5 @@
 use Rattle.std.proofs.Common.{◌≡◌, ◌≤◌, ◌-◌, take, count_by}
-use Rattle.cu_meaning.specs.View.{uses_axis}
+use Rattle.cu_semantics.specs.View.{uses_axis}
 use Rattle.cu_mean.proofs.indexing.spare_axes.Given as goal
 
 abbrev pub invariant-loop-item : goal.invariant-loop-item

@@ -3,8 +3,8 @@ use Rattle.std.specs.Prelude.{slice_index}
 use Rattle.std.specs.Int.{w64, w128}
 use Rattle.std.proofs.lemmas.Int.{to_z-of_z}
 use Rattle.cu_shape.specs.Slice.{from_end}
-use Rattle.cu_meaning.specs.Index.{natural}
-use Rattle.cu_meaning.specs.View.{indexed_from}
+use Rattle.cu_semantics.specs.Index.{natural}
+use Rattle.cu_semantics.specs.View.{indexed_from}
 use Rattle.cu_mean.proofs.IndexEntries.{place_step, number_taken}
 use Rattle.cu_mean.proofs.indexing.take_place.Goals as goal
 

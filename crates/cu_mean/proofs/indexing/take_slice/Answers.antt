@@ -2,8 +2,8 @@ use Rattle.std.proofs.Common.{◌≡◌, ◌+◌, ◌++◌, ◌∷◌, [], ℕ, 
 use Rattle.std.specs.Prelude.{slice_index}
 use Rattle.std.specs.Int.{w128}
 use Rattle.std.proofs.lemmas.Int.{to_z-of_z}
-use Rattle.cu_meaning.specs.Index.{natural}
-use Rattle.cu_meaning.specs.View.{indexed_from, sliced_index}
+use Rattle.cu_semantics.specs.Index.{natural}
+use Rattle.cu_semantics.specs.View.{indexed_from, sliced_index}
 use Rattle.cu_mean.proofs.IndexEntries.{slice_step, number_taken}
 use Rattle.cu_mean.proofs.indexing.take_slice.Goals as goal
 

@@ -1,6 +1,6 @@
 use Rattle.std.proofs.Common.{◌+◌, ◌<◌, ◌++◌, ℕ, List, ap, sym, refl, drop, length, min, subst, arith}
 use Rattle.std.specs.List.{slice_range}
-use Rattle.cu_meaning.specs.View.{indexed_from}
+use Rattle.cu_semantics.specs.View.{indexed_from}
 use Rattle.cu_mean.specs.Indexing.{IsOutside}
 use Rattle.cu_mean.proofs.IndexEntries.{spare_step, longer_by, range_length}
 use Rattle.cu_mean.proofs.indexing.take_spare.Goals as goal

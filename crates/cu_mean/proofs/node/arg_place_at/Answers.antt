@@ -2,10 +2,10 @@ use Rattle.std.proofs.Common.{pos, ℤ, [], ◌∷◌, Some, sym, ap, ◌∙◌,
 use mir.Val.{SFits}
 use Rattle.std.specs.Int.{w64, w128}
 use Rattle.std.proofs.lemmas.Int.{to_z-of_z}
-use Rattle.cu_meaning.specs.Argument.{source_at, source_shape}
-use Rattle.cu_meaning.specs.Reduction.{reduced_elements}
+use Rattle.cu_semantics.specs.Argument.{source_at, source_shape}
+use Rattle.cu_semantics.specs.Reduction.{reduced_elements}
 use Rattle.cu_reduce.specs.Places.{best_place}
-use Rattle.cu_meaning.specs.Rule.{place_axes}
+use Rattle.cu_semantics.specs.Rule.{place_axes}
 use Rattle.cu_mean.specs.Reading.{elements_in}
 use Rattle.cu_mean.proofs.node.arg_place_at.Goals as goal
 

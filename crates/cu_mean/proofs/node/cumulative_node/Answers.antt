@@ -6,8 +6,8 @@ use Rattle.cu_shape.proofs.Places.{inside-length}
 use Rattle.cu_node.specs.Info.{info_at}
 use Rattle.cu_typing.specs.Joined.{arrays_of}
 use Rattle.cu_expr.specs.Typing.{argument_of}
-use Rattle.cu_meaning.specs.Along.{line_axis, sum_up_to}
-use Rattle.cu_meaning.specs.Argument.{source_at}
+use Rattle.cu_semantics.specs.Along.{line_axis, sum_up_to}
+use Rattle.cu_semantics.specs.Argument.{source_at}
 use Rattle.cu_mean.specs.Reading.{elements_in}
 use Rattle.cu_mean.proofs.AlongTypes.{cumulative_type}
 use Rattle.cu_mean.proofs.node.cumulative_node.Goals as goal

@@ -4,7 +4,7 @@ use Rattle.std.proofs.lemmas.Int.{to_z-of_z}
 use Rattle.cu_shape.proofs.Places.{inside-length}
 use Rattle.cu_expr.specs.Typing.{argument_of}
 use Rattle.cu_typing.proofs.Passed.{passed}
-use Rattle.cu_meaning.specs.Rule.{function_value}
+use Rattle.cu_semantics.specs.Rule.{function_value}
 use Rattle.cu_mean.specs.Elementwise.{argument_in}
 use Rattle.cu_mean.proofs.NodeTypes.{element_types, go_back}
 use Rattle.cu_mean.proofs.node.elementwise_at.Goals as goal

@@ -9,9 +9,9 @@ use Rattle.cu_form.specs.Form.{group_kind}
 use Rattle.cu_node.specs.Info.{info_at}
 use Rattle.cu_typing.specs.Joined.{arrays_of}
 use Rattle.cu_expr.specs.Typing.{argument_of}
-use Rattle.cu_meaning.specs.Along.{along}
-use Rattle.cu_meaning.specs.Argument.{source_at, source_shape}
-use Rattle.cu_meaning.specs.Index.{axis_in}
+use Rattle.cu_semantics.specs.Along.{along}
+use Rattle.cu_semantics.specs.Argument.{source_at, source_shape}
+use Rattle.cu_semantics.specs.Index.{axis_in}
 use Rattle.cu_reduce.specs.Labels.{grouped_at}
 use Rattle.cu_mean.specs.Reading.{elements_in}
 use Rattle.cu_mean.proofs.AlongTypes.{groups_type}

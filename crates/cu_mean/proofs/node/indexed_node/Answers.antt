@@ -3,8 +3,8 @@ use Rattle.cu_node.specs.Info.{info_at}
 use Rattle.cu_node.specs.declared.index_item.IndexItem.{IndexItem}
 use Rattle.cu_typing.specs.Joined.{arrays_of}
 use Rattle.cu_expr.specs.Typing.{argument_of}
-use Rattle.cu_meaning.specs.Argument.{source_shape}
-use Rattle.cu_meaning.specs.View.{indexed}
+use Rattle.cu_semantics.specs.Argument.{source_shape}
+use Rattle.cu_semantics.specs.View.{indexed}
 use Rattle.cu_mean.specs.Indexing.{HasStep, IsFoundIndex, IsOutside}
 use Rattle.cu_mean.proofs.IndexTypes.{index_steps}
 use Rattle.cu_mean.proofs.ReadyNodes.{outside_source}

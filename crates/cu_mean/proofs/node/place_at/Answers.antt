@@ -2,8 +2,8 @@ use Rattle.std.proofs.Common.{pos, length, ap, ◌∙◌, arith}
 use Rattle.std.specs.Int.{w128}
 use Rattle.std.proofs.lemmas.Int.{to_z_pos}
 use Rattle.cu_shape.specs.Index.{indices_of}
-use Rattle.cu_meaning.specs.Argument.{source_at}
-use Rattle.cu_meaning.specs.Reduction.{reduced_box, reduced_start}
+use Rattle.cu_semantics.specs.Argument.{source_at}
+use Rattle.cu_semantics.specs.Reduction.{reduced_box, reduced_start}
 use Rattle.cu_reduce.specs.Places.{best_place}
 use Rattle.cu_mean.specs.Axes.{axes_in}
 use Rattle.cu_mean.specs.Reading.{elements_in}

@@ -3,8 +3,8 @@ use Rattle.std.specs.Int.{w128}
 use Rattle.std.proofs.lemmas.Int.{to_z-of_z}
 use Rattle.cu_num.specs.Wrap.{wrapped}
 use Rattle.cu_shape.proofs.Places.{inside-length}
-use Rattle.cu_meaning.specs.Argument.{source_at, source_shape}
-use Rattle.cu_meaning.specs.Matmul.{matmul_at}
+use Rattle.cu_semantics.specs.Argument.{source_at, source_shape}
+use Rattle.cu_semantics.specs.Matmul.{matmul_at}
 use Rattle.cu_node.specs.Info.{info_at}
 use Rattle.cu_typing.specs.Joined.{arrays_of}
 use Rattle.cu_expr.specs.Typing.{argument_of}

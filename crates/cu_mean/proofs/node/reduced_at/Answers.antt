@@ -3,8 +3,8 @@ use Rattle.std.specs.Int.{w128}
 use Rattle.std.proofs.lemmas.Int.{to_z-of_z}
 use Rattle.cu_num.specs.Wrap.{wrapped}
 use Rattle.cu_shape.specs.Index.{indices_of}
-use Rattle.cu_meaning.specs.Argument.{source_at, source_shape}
-use Rattle.cu_meaning.specs.Reduction.{reduced_box, reduced_start}
+use Rattle.cu_semantics.specs.Argument.{source_at, source_shape}
+use Rattle.cu_semantics.specs.Reduction.{reduced_box, reduced_start}
 use Rattle.cu_reduce.specs.Folds.{fold_of}
 use Rattle.cu_mean.specs.Axes.{axes_in}
 use Rattle.cu_mean.specs.Reading.{elements_in}

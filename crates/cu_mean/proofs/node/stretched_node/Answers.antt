@@ -1,7 +1,7 @@
 use Rattle.std.proofs.Common.{map, length, ap, sym, ◌∙◌, arith}
 use Rattle.cu_shape.proofs.Places.{inside-length}
 use Rattle.cu_node.specs.Info.{info_at}
-use Rattle.cu_meaning.specs.Argument.{source_shape}
+use Rattle.cu_semantics.specs.Argument.{source_shape}
 use Rattle.cu_typing.specs.Joined.{arrays_of}
 use Rattle.cu_expr.specs.Typing.{argument_of}
 use Rattle.cu_mean.proofs.NodeTypes.{all_arrays, told_shape}

@@ -3,8 +3,8 @@ use Rattle.std.specs.Prelude.{slice_index, slice_set}
 use Rattle.std.specs.Int.{w128}
 use Rattle.std.proofs.Math.ListN.{length-set}
 use Rattle.std.proofs.lemmas.Int.{to_z-of_z}
-use Rattle.cu_meaning.specs.Argument.{source_shape}
-use Rattle.cu_meaning.specs.View.{concat_at}
+use Rattle.cu_semantics.specs.Argument.{source_shape}
+use Rattle.cu_semantics.specs.View.{concat_at}
 use Rattle.cu_mean.specs.Reading.{elements_in}
 use Rattle.cu_mean.proofs.Joined.{concat_here, concat_on, below, not_below}
 use Rattle.cu_mean.proofs.pieces.concat_at.Goals as goal

@@ -1,5 +1,5 @@
 use Rattle.std.proofs.Common.{◌≡◌, length, drop}
-use Rattle.cu_meaning.specs.View.{concat_at}
+use Rattle.cu_semantics.specs.View.{concat_at}
 use Rattle.cu_mean.specs.Reading.{elements_in}
 use Rattle.cu_mean.proofs.pieces.concat_at.Given as goal
 

@@ -1,6 +1,6 @@
 use Rattle.std.proofs.Common.{◌≡◌, ◌≤◌}
 use Rattle.cu_mean.specs.Axes.{axes_in}
-use Rattle.cu_meaning.specs.Reduction.{kept_before}
+use Rattle.cu_semantics.specs.Reduction.{kept_before}
 use Rattle.cu_mean.proofs.reductions.kept_before.Given as goal
 
 abbrev pub invariant-loop-earlier : goal.invariant-loop-earlier

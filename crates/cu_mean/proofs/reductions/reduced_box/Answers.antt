@@ -1,7 +1,7 @@
 use Rattle.std.proofs.Common.{length}
 use Rattle.std.specs.Prelude.{slice_index, if◌then◌else◌}
 use Rattle.cu_mean.specs.Axes.{axes_in}
-use Rattle.cu_meaning.specs.Index.{is_named}
+use Rattle.cu_semantics.specs.Index.{is_named}
 use Rattle.cu_mean.proofs.Steps.{pushed}
 use Rattle.cu_mean.proofs.reductions.reduced_box.Goals as goal
 

@@ -2,8 +2,8 @@ use Rattle.std.proofs.Common.{◌≡◌, map, length}
 use Rattle.std.specs.Prelude.{slice_index, if◌then◌else◌}
 use Rattle.std.specs.List.{range_with_len}
 use Rattle.cu_mean.specs.Axes.{axes_in}
-use Rattle.cu_meaning.specs.Index.{is_named}
-use Rattle.cu_meaning.specs.Reduction.{kept_before}
+use Rattle.cu_semantics.specs.Index.{is_named}
+use Rattle.cu_semantics.specs.Reduction.{kept_before}
 use Rattle.cu_mean.proofs.reductions.reduced_start.Given as goal
 
 abbrev pub invariant-loop-axis : goal.invariant-loop-axis

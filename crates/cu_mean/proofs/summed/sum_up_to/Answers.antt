@@ -3,7 +3,7 @@ use Rattle.std.specs.Int.{w128}
 use Rattle.std.proofs.lemmas.Int.{to_z-of_z}
 use Rattle.cu_num.specs.Wrap.{wrapped}
 use Rattle.cu_reduce.specs.Prefix.{sum_below}
-use Rattle.cu_meaning.specs.Along.{along}
+use Rattle.cu_semantics.specs.Along.{along}
 use Rattle.cu_mean.specs.Reading.{named_element}
 use Rattle.cu_mean.proofs.PrefixSums.{sum_of_none, sum_more}
 use Rattle.cu_mean.proofs.summed.sum_up_to.Goals as goal

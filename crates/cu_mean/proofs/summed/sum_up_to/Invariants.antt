@@ -1,7 +1,7 @@
 use Rattle.std.proofs.Common.{◌≡◌}
 use Rattle.cu_num.specs.Wrap.{wrapped}
 use Rattle.cu_reduce.specs.Prefix.{sum_below}
-use Rattle.cu_meaning.specs.Along.{along}
+use Rattle.cu_semantics.specs.Along.{along}
 use Rattle.cu_mean.specs.Reading.{named_element}
 use Rattle.cu_mean.proofs.summed.sum_up_to.Given as goal
 

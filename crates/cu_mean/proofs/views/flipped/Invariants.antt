@@ -1,7 +1,7 @@
 use Rattle.std.proofs.Common.{◌≡◌, ◌-◌, map, length}
 use Rattle.std.specs.Prelude.{slice_index, if◌then◌else◌}
 use Rattle.std.specs.List.{range_with_len}
-use Rattle.cu_meaning.specs.Index.{is_named}
+use Rattle.cu_semantics.specs.Index.{is_named}
 use Rattle.cu_mean.proofs.views.flipped.Given as goal
 
 abbrev pub invariant-loop-axis : goal.invariant-loop-axis

@@ -1,6 +1,6 @@
 use Rattle.std.proofs.Common.{◌≡◌, ◌==◌, true, get_or, pos, sym, arith, rules}
 use Rattle.std.proofs.lemmas.List.Sums.{position_or_len_is}
-use Rattle.cu_meaning.specs.Index.{axis_in}
+use Rattle.cu_semantics.specs.Index.{axis_in}
 use Rattle.cu_mean.proofs.views.place_of_name.Goals as goal
 
 pub returns-then-names : goal.returns-then-names

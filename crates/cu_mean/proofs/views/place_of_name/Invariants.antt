@@ -1,5 +1,5 @@
 use Rattle.std.proofs.Common.{◌≡◌, ◌<◌, ◌==◌, ℕ, false, get_or, pos}
-use Rattle.cu_meaning.specs.Index.{axis_in}
+use Rattle.cu_semantics.specs.Index.{axis_in}
 use Rattle.cu_mean.proofs.views.place_of_name.Given as goal
 
 abbrev pub invariant-loop-place : goal.invariant-loop-place

@@ -1,8 +1,8 @@
 use Rattle.std.proofs.Common.{pos, length}
 use Rattle.std.specs.Prelude.{◌-ℤ◌, slice_index}
 use Rattle.std.specs.Int.{int_rem_euclid}
-use Rattle.cu_meaning.specs.Index.{natural}
-use Rattle.cu_meaning.specs.View.{shift_on}
+use Rattle.cu_semantics.specs.Index.{natural}
+use Rattle.cu_semantics.specs.View.{shift_on}
 use Rattle.cu_mean.proofs.Steps.{pushed}
 use Rattle.cu_mean.proofs.views.rolled.Goals as goal
 

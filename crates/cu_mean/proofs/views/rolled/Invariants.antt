@@ -2,8 +2,8 @@ use Rattle.std.proofs.Common.{◌≡◌, map, length, pos}
 use Rattle.std.specs.Prelude.{◌-ℤ◌, slice_index}
 use Rattle.std.specs.Int.{int_rem_euclid}
 use Rattle.std.specs.List.{range_with_len}
-use Rattle.cu_meaning.specs.Index.{natural}
-use Rattle.cu_meaning.specs.View.{shift_on}
+use Rattle.cu_semantics.specs.Index.{natural}
+use Rattle.cu_semantics.specs.View.{shift_on}
 use Rattle.cu_mean.proofs.views.rolled.Given as goal
 
 abbrev pub invariant-loop-axis : goal.invariant-loop-axis

@@ -1,6 +1,6 @@
 use Rattle.std.proofs.Common.{◌≡◌, ◌∙◌, ap, subst, sym}
 use Rattle.cu_op.specs.PlanView.{PlanView}
-use Rattle.cu_state.specs.Pieces.{PlanRun, KeysApart, InputsApart}
+use Rattle.cu_run_law.specs.Pieces.{PlanRun, KeysApart, InputsApart}
 use Rattle.cu_store.specs.Steps.{Shown}
 use Rattle.cu_table.specs.Table.{TableView}
 use Rattle.cu_work.specs.Run.{run_of as work_run}

@@ -1,5 +1,5 @@
 use Rattle.std.proofs.Common.{◌≡◌, ◌<◌, ℕ, length, get_or, if◌then◌else◌}
-use Rattle.cu_pull.specs.Pull.{has_axis}
+use Rattle.cu_origin.specs.Pull.{has_axis}
 use Rattle.cu_tree.proofs.partials.partial_chunk.Given as goal
 
 abbrev pub invariant-loop-axis : goal.invariant-loop-axis

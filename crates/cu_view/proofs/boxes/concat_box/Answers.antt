@@ -1,6 +1,6 @@
 use Rattle.std.proofs.Common.{◌≡◌, ℕ, suc, List, [], get_or, ap, ◌∙◌, arith}
 use Rattle.cu_shape.proofs.Places.{inside-length}
-use Rattle.cu_pull.proofs.AxesInside.{inside_at}
+use Rattle.cu_origin.proofs.AxesInside.{inside_at}
 use Rattle.cu_view.proofs.Concats.{concat_exactly, offset_more, offset_within}
 use Rattle.cu_view.proofs.Fitting.{source_is}
 use Rattle.cu_view.proofs.boxes.concat_box.Goals as goal

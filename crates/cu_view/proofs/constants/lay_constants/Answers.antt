@@ -5,9 +5,9 @@ use Rattle.std.proofs.lemmas.Int.{to_z-of_z}
 use Rattle.std.specs.Ordering.{int_eq}
 use Rattle.cu_num.specs.Element.{element_bytes}
 use Rattle.cu_num.specs.declared.layout.Endian.TheVariants.{Little}
-use Rattle.cu_pull.specs.Pull.{diagonal_of, is_in_triangle}
-use Rattle.cu_pull.specs.Fits.{FitsConcat}
-use Rattle.cu_pull.specs.declared.pull.Pull.TheVariants.{Concat, Triangle, Full, Arange, Eye}
+use Rattle.cu_origin.specs.Pull.{diagonal_of, is_in_triangle}
+use Rattle.cu_origin.specs.Fits.{FitsConcat}
+use Rattle.cu_origin.specs.declared.pull.Pull.TheVariants.{Concat, Triangle, Full, Arange, Eye}
 use Rattle.cu_view_box.specs.Block.{buffer_place}
 use Rattle.cu_view.proofs.Asked.{lo_length, size_small}
 use Rattle.cu_view.proofs.Fitting.{fits_as}

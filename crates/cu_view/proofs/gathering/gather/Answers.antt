@@ -3,7 +3,7 @@ use Rattle.std.proofs.lemmas.Bool.Decides.{eqb_tells}
 use Rattle.cu_num.specs.Element.{bytes_at, element_at, element_bytes}
 use Rattle.cu_num.specs.declared.layout.Endian.TheVariants.{Little}
 use Rattle.cu_grid.specs.Counts.{IsWithin}
-use Rattle.cu_pull.specs.declared.provenance.Provenance.TheVariants.{From}
+use Rattle.cu_origin.specs.declared.provenance.Provenance.TheVariants.{From}
 use Rattle.cu_view_box.specs.Block.{buffer_place}
 use Rattle.cu_view_box.specs.Piece.{read_at}
 use Rattle.cu_view_box.specs.Reshape.{IsReshape}

@@ -2,8 +2,8 @@ use Rattle.std.proofs.Common.{◌≡◌, ℕ, ◌<◌, List}
 use Rattle.cu_num.specs.Element.{bytes_at, element_at, element_bytes}
 use Rattle.cu_num.specs.declared.layout.Endian.TheVariants.{Little}
 use Rattle.cu_grid.specs.Counts.{IsWithin}
-use Rattle.cu_pull.specs.Pull.{origin_of}
-use Rattle.cu_pull.specs.declared.provenance.Provenance.TheVariants.{From}
+use Rattle.cu_origin.specs.Pull.{origin_of}
+use Rattle.cu_origin.specs.declared.provenance.Provenance.TheVariants.{From}
 use Rattle.cu_view_box.specs.Block.{buffer_place}
 use Rattle.cu_view.specs.Gathered.{IsElementKept}
 use Rattle.cu_view.specs.Pieces.{number_at}

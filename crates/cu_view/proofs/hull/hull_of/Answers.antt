@@ -3,8 +3,8 @@ use Rattle.std.proofs.lemmas.Bool.Decides.{eqb_tells}
 use Rattle.std.specs.Option.{IfSome}
 use Rattle.cu_shape.specs.Index.{IsInside}
 use Rattle.cu_grid.specs.Counts.{IsRegion, IsWithin}
-use Rattle.cu_pull.specs.Pull.{origin_of}
-use Rattle.cu_pull.specs.declared.provenance.Provenance.TheVariants.{From}
+use Rattle.cu_origin.specs.Pull.{origin_of}
+use Rattle.cu_origin.specs.declared.provenance.Provenance.TheVariants.{From}
 use Rattle.cu_view_box.specs.Piece.{read_at}
 use Rattle.cu_view_box.specs.Reshape.{IsReshape}
 use Rattle.cu_view.specs.Hull.{HoldsIndex}

@@ -3,7 +3,7 @@ use Rattle.std.specs.Ordering.{int_eq}
 use Rattle.std.proofs.lemmas.Int.{to_z-of_z}
 use Rattle.cu_num.specs.Element.{element_bytes}
 use Rattle.cu_num.specs.declared.layout.Endian.TheVariants.{Little}
-use Rattle.cu_pull.specs.Pull.{diagonal_of}
+use Rattle.cu_origin.specs.Pull.{diagonal_of}
 use Rattle.cu_view_box.specs.Block.{buffer_place}
 use Rattle.cu_view.proofs.Eyes.{cell_of, eye_done, eye_left}
 use Rattle.cu_view.proofs.OneByOne.{place_fits, block_same}

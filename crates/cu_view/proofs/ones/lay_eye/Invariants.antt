@@ -3,7 +3,7 @@ use Rattle.std.specs.Ordering.{int_eq}
 use Rattle.cu_num.specs.Element.{bytes_at, element_bytes}
 use Rattle.cu_num.specs.declared.layout.Endian.TheVariants.{Little}
 use Rattle.cu_grid.specs.Counts.{IsWithin}
-use Rattle.cu_pull.specs.Pull.{diagonal_of}
+use Rattle.cu_origin.specs.Pull.{diagonal_of}
 use Rattle.cu_view_box.specs.Block.{buffer_place}
 use Rattle.cu_view.proofs.ones.lay_eye.Given as goal
 

@@ -1,5 +1,5 @@
 use Rattle.std.proofs.Common.{◌≡◌, length, drop}
-use Rattle.cu_pull.specs.Pull.{concat_from}
+use Rattle.cu_origin.specs.Pull.{concat_from}
 use Rattle.cu_view.proofs.origins.concat_origin.Given as goal
 
 abbrev pub invariant-loop-number : goal.invariant-loop-number

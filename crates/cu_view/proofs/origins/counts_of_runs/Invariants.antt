@@ -1,5 +1,5 @@
 use Rattle.std.proofs.Common.{◌≡◌, length, take}
-use Rattle.cu_pull.specs.Pull.{counts_of_runs}
+use Rattle.cu_origin.specs.Pull.{counts_of_runs}
 use Rattle.cu_view.proofs.origins.counts_of_runs.Given as goal
 
 abbrev pub invariant-loop-run : goal.invariant-loop-run

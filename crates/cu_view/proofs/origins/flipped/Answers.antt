@@ -1,8 +1,8 @@
 use Rattle.std.proofs.Common.{◌<◌, ◌∙◌, length, get_or, arith}
 use Rattle.std.proofs.lemmas.List.FromFn.{fill_by_all}
 use Rattle.cu_shape.proofs.Places.{inside-length}
-use Rattle.cu_pull.specs.Pull.{flipped_on}
-use Rattle.cu_pull.proofs.AxesInside.{inside_at}
+use Rattle.cu_origin.specs.Pull.{flipped_on}
+use Rattle.cu_origin.proofs.AxesInside.{inside_at}
 use Rattle.cu_view.proofs.origins.flipped.Goals as goal
 
 pub returns : goal.returns

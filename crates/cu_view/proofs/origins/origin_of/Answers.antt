@@ -1,8 +1,8 @@
 use Rattle.std.proofs.Common.{◌≡◌, ℕ, ◌≤◌, List, [], length, get_or, None, ap, arith}
 use Rattle.cu_shape.specs.Broadcast.{broadcast_of, mismatch_of}
 use Rattle.cu_shape.proofs.Places.{inside-length}
-use Rattle.cu_pull.specs.Fits.{FitsSlice, FitsPermute, FitsConcat, FitsStack}
-use Rattle.cu_pull.proofs.AxesInside.{inside_at}
+use Rattle.cu_origin.specs.Fits.{FitsSlice, FitsPermute, FitsConcat, FitsStack}
+use Rattle.cu_origin.proofs.AxesInside.{inside_at}
 use Rattle.cu_view.proofs.Fitting.{fits_as, one_source, first_is, slice_product, counted, permuted_rank, broadcast_rank}
 use Rattle.cu_view.proofs.origins.origin_of.Goals as goal
 

@@ -1,6 +1,6 @@
 use Rattle.std.proofs.Common.{◌∙◌, length, arith}
 use Rattle.std.proofs.lemmas.List.FromFn.{fill_by_all}
-use Rattle.cu_pull.specs.Pull.{permuted_on}
+use Rattle.cu_origin.specs.Pull.{permuted_on}
 use Rattle.cu_view.proofs.origins.permuted.Goals as goal
 
 pub returns : goal.returns

@@ -1,5 +1,5 @@
 use Rattle.std.proofs.Common.{◌≡◌, ℕ, ◌<◌, length, get_or}
-use Rattle.cu_pull.specs.Pull.{rolled_on}
+use Rattle.cu_origin.specs.Pull.{rolled_on}
 use Rattle.cu_view.proofs.origins.rolled.Given as goal
 
 abbrev pub invariant-loop-axis : goal.invariant-loop-axis

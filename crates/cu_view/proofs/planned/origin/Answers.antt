@@ -1,6 +1,6 @@
 use Rattle.std.proofs.Common.{◌≡◌, ◌≤◌, ℕ, List, length, ap, sym, ◌∙◌, subst, rules}
-use Rattle.cu_pull.specs.Pull.{IsInSources}
-use Rattle.cu_pull.specs.declared.provenance.Provenance.{Provenance}
+use Rattle.cu_origin.specs.Pull.{IsInSources}
+use Rattle.cu_origin.specs.declared.provenance.Provenance.{Provenance}
 use Rattle.cu_op.specs.declared.layout.ArrayInfo.{ArrayInfo}
 use Rattle.cu_op.specs.Operation.{reads_of}
 use Rattle.cu_op.specs.Kind.Pull.{shapes_at, pulled}

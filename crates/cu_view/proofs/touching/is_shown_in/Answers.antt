@@ -2,8 +2,8 @@ use Rattle.std.proofs.Common.{◌≡◌, ◌-◌, ◌≤◌, ℕ, ℤ, true, Lis
 use mir.Syntax.{w64}
 use mir.Val.{SFits}
 use Rattle.std.proofs.lemmas.Int.{to_z-of_z}
-use Rattle.cu_pull.specs.Pull.{is_in_triangle}
-use Rattle.cu_pull.specs.declared.pull.Pull.{Pull}
+use Rattle.cu_origin.specs.Pull.{is_in_triangle}
+use Rattle.cu_origin.specs.declared.pull.Pull.{Pull}
 use Rattle.cu_view.specs.Pieces.{HasAxes, IsShown}
 use Rattle.cu_view.proofs.Corners.{corner_shown}
 use Rattle.cu_view.proofs.touching.is_shown_in.Goals as goal

@@ -1,7 +1,7 @@
 use Rattle.std.proofs.Common.{◌≡◌, ℕ, ◌<◌, List}
 use Rattle.cu_grid.specs.Counts.{IsWithin}
-use Rattle.cu_pull.specs.Pull.{origin_of}
-use Rattle.cu_pull.specs.declared.provenance.Provenance.TheVariants.{From}
+use Rattle.cu_origin.specs.Pull.{origin_of}
+use Rattle.cu_origin.specs.declared.provenance.Provenance.TheVariants.{From}
 use Rattle.cu_view.specs.Pieces.{number_at}
 use Rattle.cu_view.proofs.touching.touches_of.Given as goal
 

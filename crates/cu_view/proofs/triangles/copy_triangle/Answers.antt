@@ -2,7 +2,7 @@ use Rattle.std.proofs.Common.{◌≡◌, ◌-◌, ℤ, IsTrue, length, get_or, r
 use Rattle.std.proofs.lemmas.Bool.Decides.{eqb_tells}
 use Rattle.std.proofs.lemmas.Int.{to_z-of_z}
 use Rattle.cu_grid.proofs.Meeting.{within_of}
-use Rattle.cu_pull.specs.Pull.{is_in_triangle}
+use Rattle.cu_origin.specs.Pull.{is_in_triangle}
 use Rattle.cu_view_box.proofs.Boxes.{at_axis}
 use Rattle.cu_view.proofs.Corners.{read_same}
 use Rattle.cu_view.proofs.triangles.copy_triangle.Goals as goal

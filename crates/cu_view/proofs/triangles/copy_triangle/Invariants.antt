@@ -1,6 +1,6 @@
 use Rattle.std.proofs.Common.{◌-◌, ℕ, ◌<◌, IsTrue, List, length, get_or}
 use Rattle.cu_grid.specs.Counts.{IsWithin}
-use Rattle.cu_pull.specs.Pull.{is_in_triangle}
+use Rattle.cu_origin.specs.Pull.{is_in_triangle}
 use Rattle.cu_view.specs.Gathered.{HasMoved, IsElementKept}
 use Rattle.cu_view.proofs.triangles.copy_triangle.Given as goal
 

@@ -1,8 +1,8 @@
 use Rattle.std.proofs.Common.{◌≡◌, ℕ, List, length, ap, ◌∙◌, sym, arith}
 use Rattle.std.proofs.lemmas.List.{length-map}
 use Rattle.cu_shape.specs.declared.slice.Run.{Run}
-use Rattle.cu_pull.specs.Fits.{without_ones}
-use Rattle.cu_pull.specs.Pull.{counts_of_runs}
+use Rattle.cu_origin.specs.Fits.{without_ones}
+use Rattle.cu_origin.specs.Pull.{counts_of_runs}
 use Rattle.cu_view.specs.Boxes.{longer_before}
 use Rattle.cu_view.proofs.Slices.{longer_below, longer_all, count_is}
 use Rattle.cu_view.proofs.ways.sliced_way.Goals as goal

@@ -4,9 +4,9 @@ use Rattle.std.proofs.lemmas.Bool.Decides.{nat_tests}
 use Rattle.cu_shape.specs.Broadcast.{broadcast_of, mismatch_of}
 use Rattle.cu_shape.specs.declared.slice.Run.{Run}
 use Rattle.cu_shape.proofs.Places.{inside-length}
-use Rattle.cu_pull.specs.Fits.{FitsSlice, FitsPermute}
-use Rattle.cu_pull.specs.declared.pull.Pull.TheVariants.{Slice, Permute, Concat, Stack, Flip, Roll, Broadcast, Triangle}
-use Rattle.cu_pull.proofs.AxesInside.{inside_at}
+use Rattle.cu_origin.specs.Fits.{FitsSlice, FitsPermute}
+use Rattle.cu_origin.specs.declared.pull.Pull.TheVariants.{Slice, Permute, Concat, Stack, Flip, Roll, Broadcast, Triangle}
+use Rattle.cu_origin.proofs.AxesInside.{inside_at}
 use Rattle.cu_view_box.specs.declared.way.Way.TheVariants.{Up}
 use Rattle.cu_view.proofs.Asked.{ask_as, reads_back, size_small, source_small, lo_length, hi_within, concat_rank, stack_rank}
 use Rattle.cu_view.proofs.Fitting.{one_source, first_is, broadcast_rank, permuted_shape}

@@ -1,7 +1,7 @@
 use Rattle.std.proofs.Common.{◌≡◌, ◌∙◌, sym, ap, List, ℕ, [], ◌∷◌, ◌++◌, map, length, take, ◌-◌, append-nil, append_assoc, rules, subst, ◌<◌}
 use Rattle.std.specs.Prelude.{Contains}
-use Rattle.cu_turn.specs.Rule.{AllBelow, Each, IsKnownFront}
-use Rattle.cu_turn.specs.declared.view.KnownFront.{KnownFront}
+use Rattle.cu_lock.specs.Rule.{AllBelow, Each, IsKnownFront}
+use Rattle.cu_lock.specs.declared.view.KnownFront.{KnownFront}
 use Rattle.cu_board.specs.Board.{halted_fault}
 use Rattle.cu_board.specs.Views.{SeatAt}
 use Rattle.cu_work.specs.Workers.{AreWorkersOf, TookIn, front_of}

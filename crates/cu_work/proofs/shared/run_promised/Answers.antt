@@ -8,7 +8,7 @@ use Rattle.cu_work.specs.Calls.{calls_of_tasks}
 use Rattle.cu_work.specs.Rooms.{RoomSizes, rooms_of}
 use Rattle.cu_store.specs.Share.{Lent, KeysDiffer, MayShare, IsShared, MayGiveBack, PutPromised, HoldsSeen}
 use Rattle.cu_store.specs.Steps.{Steps}
-use Rattle.cu_state.specs.Pieces.{chunks_alone}
+use Rattle.cu_run_law.specs.Pieces.{chunks_alone}
 use Rattle.cu_table.specs.Machine.{Machine}
 use Rattle.cu_table.specs.Table.{TableView}
 use Rattle.cu_op.specs.PlanView.{PlanView}

@@ -3,7 +3,7 @@ use Rattle.std.specs.Prelude.{slice_index_or}
 use Rattle.cu_store.specs.Yard.{Known}
 use Rattle.cu_op.specs.PlanView.{PlanView}
 use Rattle.cu_table.specs.Table.{TableView}
-use Rattle.cu_turn.specs.Rule.{AllBelow, IsKnownFront}
+use Rattle.cu_lock.specs.Rule.{AllBelow, IsKnownFront}
 use Rattle.cu_board.specs.Board.{IsLegal, halted_fault}
 use Rattle.cu_board.specs.Views.{SeatAt}
 use Rattle.cu_work.specs.Alone.{IsDecided}

@@ -1,6 +1,6 @@
 use Rattle.std.proofs.Common.{ℕ, ◌<◌, sym, subst}
 use Rattle.std.specs.Prelude.{Contains}
-use Rattle.cu_turn.specs.Views.{joined_numbers}
+use Rattle.cu_lock.specs.Views.{joined_numbers}
 use Rattle.cu_board.specs.Views.{SeatAt}
 use Rattle.cu_board.proofs.board.Board.close.Goals as goal
 

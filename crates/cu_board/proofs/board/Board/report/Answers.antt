@@ -1,7 +1,7 @@
 use Rattle.std.proofs.Common.{◌≡◌, ◌∙◌, sym, ap, subst, ℕ, false}
 use Rattle.cu_table.specs.Table.{TableView}
-use Rattle.cu_turn.specs.declared.view.SeatView.{SeatView}
-use Rattle.cu_turn.specs.Seats.{first_view, seat_view}
+use Rattle.cu_lock.specs.declared.view.SeatView.{SeatView}
+use Rattle.cu_lock.specs.Seats.{first_view, seat_view}
 use Rattle.cu_board.specs.Board.{IsReportTurn, Reports}
 use Rattle.cu_board.specs.Views.{SeatAt, BoardView}
 use Rattle.cu_board.proofs.SeatViews.{grows_at, knows_after}

@@ -1,0 +1,5 @@
+use Rattle.cu_semantics.proofs.InType.{meaning_fits}
+use Rattle.cu_semantics.proofs.laws.type_law.Goals as goal
+
+pub returns : goal.returns
+returns c = meaning_fits

@@ -1,8 +1,0 @@
-use Rattle.cu_state.proofs.Reading.{all_held, elements_held}
-use Rattle.cu_state.proofs.laws.complete_law.Goals as goal
-
-pub returns : goal.returns
-returns c = record {
-  done = all_held;
-  elements = λ r env shown a idx left. elements_held c.range_law.ensures.values r env shown a idx left;
-}

@@ -1,8 +1,0 @@
-use Rattle.cu_state.proofs.Reading.{task_ready, ready_after}
-use Rattle.cu_state.proofs.laws.task_law.Goals as goal
-
-pub returns : goal.returns
-returns c = record {
-  ready = λ r env shown k task left operation number. task_ready c.range_law.ensures.values r env shown left k task operation number;
-  after = λ r env shown k task before left operation number. ready_after c.range_law.ensures.values r env shown left k task operation number before;
-}
