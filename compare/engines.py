@@ -4,7 +4,7 @@
 usage: engines.py [--program FILE] [--dir FOLDER] [--rounds N] [--seconds S] [--seed N]
 
 The engine is `dask.distributed.LocalCluster` with four processes, each with one thread. While a result is stored a thread kills a worker's
-process every S seconds (0.5), and the cluster starts another. The package submits the parts, tries again what was lost, and at the end
+process every S seconds (0.5), once all four are there again, and the cluster starts another. The package submits the parts, tries again what was lost, and at the end
 calls `resume`. The expressions have maps, a reduction over several rounds, and a change of chunks.
 
 It needs NumPy, dask.distributed (Debian's python3-distributed) and the program. It ends with how many rounds were right, how many workers
@@ -22,6 +22,9 @@ import threading
 TOP = os.path.dirname(os.path.dirname(os.path.realpath(__file__)))
 sys.dont_write_bytecode = True
 sys.path.insert(0, os.path.join(TOP, "python"))
+
+
+WORKERS = 4
 
 
 def expressions(a, b):
@@ -45,7 +48,8 @@ class Killer(threading.Thread):
     def run(self):
         while not self.ended.wait(self.seconds * (0.5 + self.chance.random())):
             pids = [nanny.pid for nanny in list(self.cluster.workers.values()) if getattr(nanny, "pid", None)]
-            if pids:
+            # A cluster that loses workers faster than they come back breaks off by itself.
+            if pids and len(self.cluster.scheduler.workers) == WORKERS:
                 try:
                     os.kill(self.chance.choice(pids), signal.SIGKILL)
                     self.killed += 1
@@ -72,7 +76,7 @@ def main():
     rng = numpy.random.default_rng(given.seed)
     inputs = [rng.integers(-1000, 1000, (768, 192), dtype="int32") for _ in range(2)]
     right = rounds = killed = 0
-    with LocalCluster(n_workers=4, threads_per_worker=1, dashboard_address=None) as cluster, Client(cluster) as client:
+    with LocalCluster(n_workers=WORKERS, threads_per_worker=1, dashboard_address=None) as cluster, Client(cluster) as client:
         for number in range(given.rounds):
             folder = tempfile.mkdtemp(prefix="cubed-engine-", dir=given.dir)
             try:
@@ -80,6 +84,7 @@ def main():
                 lazy = [store.save(name, values, chunks=(8, 96)) for name, values in zip("ab", inputs)]
                 wanted = expressions(*inputs)
                 for name, made in expressions(*lazy).items():
+                    client.wait_for_workers(WORKERS)
                     killer = Killer(cluster, given.seconds, chance)
                     killer.start()
                     try:
