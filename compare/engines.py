@@ -76,30 +76,35 @@ def main():
     rng = numpy.random.default_rng(given.seed)
     inputs = [rng.integers(-1000, 1000, (768, 192), dtype="int32") for _ in range(2)]
     right = rounds = killed = 0
-    with LocalCluster(n_workers=WORKERS, threads_per_worker=1, dashboard_address=None) as cluster, Client(cluster) as client:
-        for number in range(given.rounds):
-            folder = tempfile.mkdtemp(prefix="cubed-engine-", dir=given.dir)
-            try:
-                store = cengmoat.Store(folder, program=given.program, split_every=2)
-                lazy = [store.save(name, values, chunks=(8, 96)) for name, values in zip("ab", inputs)]
-                wanted = expressions(*inputs)
-                for name, made in expressions(*lazy).items():
-                    client.wait_for_workers(WORKERS)
-                    killer = Killer(cluster, given.seconds, chance)
-                    killer.start()
-                    try:
-                        made().store("y", executor=client)
-                    finally:
-                        killer.ended.set()
-                        killer.join()
-                    killed += killer.killed
-                    rounds += 1
-                    same = numpy.array_equal(store.read("y"), wanted[name]())
-                    right += same
-                    print(f"round {number}, {name}: {'right' if same else 'WRONG'}, {killer.killed} workers killed", flush=True)
-                    store.remove("y")
-            finally:
-                shutil.rmtree(folder, ignore_errors=True)
+    for number in range(given.rounds):
+        folder = tempfile.mkdtemp(prefix="cubed-engine-", dir=given.dir)
+        cluster = LocalCluster(n_workers=WORKERS, threads_per_worker=1, dashboard_address=None)
+        client = Client(cluster)
+        try:
+            store = cengmoat.Store(folder, program=given.program, split_every=2)
+            lazy = [store.save(name, values, chunks=(8, 96)) for name, values in zip("ab", inputs)]
+            wanted = expressions(*inputs)
+            for name, made in expressions(*lazy).items():
+                client.wait_for_workers(WORKERS, timeout=30)
+                killer = Killer(cluster, given.seconds, chance)
+                killer.start()
+                try:
+                    made().store("y", executor=client)
+                finally:
+                    killer.ended.set()
+                    killer.join()
+                killed += killer.killed
+                rounds += 1
+                same = numpy.array_equal(store.read("y"), wanted[name]())
+                right += same
+                print(f"round {number}, {name}: {'right' if same else 'WRONG'}, {killer.killed} workers killed", flush=True)
+                store.remove("y")
+        except TimeoutError:
+            print(f"round {number}: the cluster gave a worker up", flush=True)
+        finally:
+            client.close(timeout=5)
+            cluster.close(timeout=5)
+            shutil.rmtree(folder, ignore_errors=True)
     print(f"{right} of {rounds} right, {killed} workers killed")
     return 0 if right == rounds else 1
 
