@@ -26,21 +26,27 @@ pub stays_risen : (a b c : Option ℕ) → HasRisen 1 a b → HasRisen 0 b c →
 stays_risen a b c first more = rises 1 0 a b c first more
 
 -- the new file was written and couldn't be renamed; what is done then doesn't hide it
-pub unrenamed : (error : Error) (P : Type 0) (a b c d : Option ℕ) → HasRisen 0 a b → (error_kind error ≡ OutOfMemory) ⊎ HasRisen 1 b c → HasRisen 0 c d
+pub unrenamed : (error : Error) (P : Type 0) (a b c d : Option ℕ)
+    → HasRisen 0 a b → (error_kind error ≡ OutOfMemory) ⊎ HasRisen 1 b c → HasRisen 0 c d
     → (error_kind error ≡ OutOfMemory) ⊎ P ⊎ HasRisen 1 a d
 unrenamed error P a b c d written (inl memory) taken_away = inl memory
-unrenamed error P a b c d written (inr failed) taken_away = inr (inr (stays_risen a c d (rises_then a b c written failed) taken_away))
+unrenamed error P a b c d written (inr failed) taken_away =
+    inr (inr (stays_risen a c d (rises_then a b c written failed) taken_away))
 
-lacked : (kind : ErrorKind) (result : Result (Unit {0}) DepotFault) → kind ≡ OutOfMemory → result ≡ Err (fault_of kind) → result ≡ Err Failed → ⊥
+lacked : (kind : ErrorKind) (result : Result (Unit {0}) DepotFault)
+    → kind ≡ OutOfMemory → result ≡ Err (fault_of kind) → result ≡ Err Failed → ⊥
 lacked kind result memory is failed =
     let other : result ≡ Err NoMemory = is ∙ rw memory refl in
     cc
 
 -- a fault of the depot is one of the tree
-pub failed_by : (places : Option (List ℕ → Bool)) (path : List ℕ) (number : ℕ) (before after : Option ℕ)
-    (answer : Result (Unit {0}) Error) (result : Result (Unit {0}) DepotFault)
-    → IfErr answer (IsPutCause places path number before after) → AnswersAs answer result → result ≡ Err Failed
+pub failed_by : (places : Option (List ℕ → Bool)) (path : List ℕ) (number : ℕ)
+    (before after : Option ℕ) (answer : Result (Unit {0}) Error)
+    (result : Result (Unit {0}) DepotFault)
+    → IfErr answer (IsPutCause places path number before after) → AnswersAs answer result
+    → result ≡ Err Failed
     → AreTaken places path number tried_names ⊎ HasRisen 1 before after
 failed_by places path number before after (Ok x) result cause is failed = cc
-failed_by places path number before after (Err e) result (inl memory) is failed = absurd (lacked (error_kind e) result memory is failed)
+failed_by places path number before after (Err e) result (inl memory) is failed =
+    absurd (lacked (error_kind e) result memory is failed)
 failed_by places path number before after (Err e) result (inr cause) is failed = cause
