@@ -14,7 +14,7 @@ use Rattle.cu_op.proofs.KeyTexts.{keys_differ}
 use Rattle.cu_op.proofs.Singles.{same_aligned, add_fits}
 use Rattle.cu_chain.specs.Chain.{six_in_fours, array_under, chain_arrays, chain_plan}
 
-grid_ok : IsGrid six_in_fours
+pub grid_ok : IsGrid six_in_fours
 grid_ok = record {
   ranks = refl;
   short = omega arith;
@@ -23,7 +23,7 @@ grid_ok = record {
   chunk_elements = omega arith;
 }
 
-array_ok : (name : List ℕ) (maker : Option ℕ) → length name ≤ 45 → IsArray (array_under name maker)
+pub array_ok : (name : List ℕ) (maker : Option ℕ) → length name ≤ 45 → IsArray (array_under name maker)
 array_ok name maker short = record { short = short; grid = grid_ok; fill = (omega arith, omega arith) }
 
 arrays_ok : All IsArray chain_arrays

@@ -135,7 +135,7 @@ early_spoils left =
 abbrev pub named_run : PlanRun
 named_run = record { plan = chain_plan; texts = (record_key_of (codes "y"), []) ∷ (metadata_key_of (codes "y"), []) ∷ [] }
 
-short_name : (c : ℕ) → c ≢ 47 → c ≢ 95 → IsArrayName (c ∷ [])
+pub short_name : (c : ℕ) → c ≢ 47 → c ≢ 95 → IsArrayName (c ∷ [])
 short_name c slash low = record { plain = All-cons (λ b. b ≢ 47) c [] slash (All-nil (λ b. b ≢ 47)); short = omega arith; first = low }
 
 made_name : (a : ℕ) → a < 4 → maker_at chain_arrays a ≢ None
@@ -154,10 +154,10 @@ encoded (suc (suc zero)) h s = refl
 encoded (suc (suc (suc zero))) h s = refl
 encoded (suc (suc (suc (suc a)))) h s = absurd (omega arith)
 
-not_made : (k : ℕ) → Some k ≡ None → ⊥
+pub not_made : (k : ℕ) → Some k ≡ None → ⊥
 not_made k e = cc
 
-one_code : (c d : ℕ) → c ∷ [] ≡ d ∷ [] → c ≡ d
+pub one_code : (c d : ℕ) → c ∷ [] ≡ d ∷ [] → c ≡ d
 one_code c d e = ap (λ (xs : List ℕ). get_or xs 0 0) e
 
 input_name : (a : ℕ) → a < 4 → maker_at chain_arrays a ≡ None → IsArrayName (array_at chain_arrays a).prefix × ((array_at chain_arrays a).prefix ≢ codes "y")

@@ -1,4 +1,4 @@
--- The plan of two sums, of which the second reads what the first makes.
+-- The plan of two sums, of which the second reads what the first makes; and that of one sum.
 use Rattle.std.specs.Prelude.{ℕ, pos, List, [], ◌∷◌, Option, Some, None, codes}
 use Rattle.cu_num.specs.declared.types.Dtype.TheVariants.{Int32}
 use Rattle.cu_num.specs.declared.layout.Encoding.TheVariants.{Plain}
@@ -28,6 +28,18 @@ chain_plan = record {
   arrays = chain_arrays;
   ops = record { op = addition_of Int32 0 1 2; node = 0; projected = 1600 } ∷ record { op = addition_of Int32 2 1 3; node = 1; projected = 1600 } ∷ [];
   out = 3;
+  allowed = 1600;
+  reserved = 0;
+}
+
+abbrev pub addition_arrays : List ArrayInfo
+addition_arrays = array_under (codes "a") None ∷ array_under (codes "b") None ∷ array_under (codes "y") (Some 0) ∷ []
+
+abbrev pub addition_plan : PlanView
+addition_plan = record {
+  arrays = addition_arrays;
+  ops = record { op = addition_of Int32 0 1 2; node = 2; projected = 1600 } ∷ [];
+  out = 2;
   allowed = 1600;
   reserved = 0;
 }

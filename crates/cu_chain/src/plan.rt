@@ -1,8 +1,10 @@
-//! A plan of two sums, of which the second reads what the first makes: y = (a + b) + b, over six int32 numbers in chunks of four.
+//! A plan of one sum, y = a + b, and one of two, of which the second reads what the first makes, y = (a + b) + b, over six int32 numbers
+//! in chunks of four.
 ghost use Rattle.std.specs.Prelude.{◌≡◌, IfOk};
 ghost use Rattle.cu_num.specs.declared.types.Dtype.TheVariants.{Int32 as Numbers};
 ghost use Rattle.cu_op.specs.OneMap.{addition_of};
-ghost use Rattle.cu_chain.specs.Chain.{six_in_fours, array_under};
+ghost use Rattle.cu_op.specs.Sound.{Sound};
+ghost use Rattle.cu_chain.specs.Chain.{six_in_fours, array_under, addition_plan};
 
 use anyhow::{Result, bail};
 use arrayvec::ArrayVec;
@@ -75,7 +77,27 @@ fn sum(first: u32, second: u32, out: u32) -> Op
     }
 }
 
-/// The plan.
+/// The plan of one sum.
+pub(crate) fn addition(alloc: Global) -> Result<Plan>
+    ensures plan { IfOk result (λ plan. plan ≡ addition_plan) }
+    ensures sound { IfOk result Sound }
+{
+    let grid = grid()?;
+    let left = array(key("a")?, grid, None);
+    let right = array(key("b")?, grid, None);
+    let made = array(key("y")?, grid, Some(0));
+    let arrays = vec![in alloc; left, right, made]?;
+    let only = Planned {
+        op: sum(0, 1, 2),
+        node: 2,
+        projected: ROOM,
+    };
+    let ops = vec![in alloc; only]?;
+    promotion_law();
+    Ok(Plan::make(arrays, ops, 2, ROOM, 0))
+}
+
+/// The plan of two sums.
 pub(crate) fn chain(alloc: Global) -> Result<Plan> {
     let grid = grid()?;
     let left = array(key("a")?, grid, None);
