@@ -173,8 +173,9 @@ def killed(engine, kills, pool, chance):
             part = chance.choice(sorted(left) or parts) if chance.random() < 0.8 else chance.choice(parts)
             running.append((part, engine.start(*part)))
         if count < kills and chance.random() < 0.5:
-            _, process = running.pop(chance.randrange(len(running)))
-            time.sleep(chance.random() * 0.02)
+            # The one that was started last: the others may have ended.
+            _, process = running.pop()
+            time.sleep(chance.random() * 0.01)
             process.kill()
             count += engine.ended(process) < 0
             continue
