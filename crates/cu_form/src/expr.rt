@@ -33,6 +33,8 @@ impl Model for Expr {
 }
 
 impl Expr {
+    ghost use Rattle.cu_form.specs.Expression.{IsExpression};
+
     /// The expression of these nodes, whose node `out` is stored under the name `store_as`.
     pub fn make(nodes: Vec<Node>, out: u32, store_as: IdText) -> Expr
         requires { IsExpression (record { nodes = nodes.items; out = out; store_as = store_as }) }

@@ -23,6 +23,8 @@ impl Model for Plain {
 }
 
 impl Plain {
+    ghost use Rattle.cu_mean.specs.Plain.{IsPlain};
+
     /// The array of these elements, as many as the shape says, each in the type's range.
     pub fn make(dtype: Dtype, dims: Dims, cells: Vec<i128>) -> Plain
         requires { IsPlain (record { dtype = dtype; dims = dims; cells = cells.items }) }
@@ -72,6 +74,7 @@ pub struct Plains {
 
 impl Model for Plains {
     ghost use Rattle.std.specs.Prelude.{List};
+    ghost use Rattle.cu_mean.specs.Plain.{PlainArray};
 
     ghost Value = { List PlainArray };
 

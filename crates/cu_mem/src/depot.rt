@@ -46,10 +46,10 @@ impl Model for MemDepot {
 }
 
 impl MemDepot {
-    ghost use Rattle.cu_mem.specs.Memory.{contents, shown_of, Begins};
+    ghost use Rattle.cu_mem.specs.Memory.{contents, shown_of, loan_of, Begins};
     ghost use Rattle.cu_mem.specs.Script.{LandsOnce, started, fate};
     ghost use Rattle.cu_store.specs.Faults.{last_count};
-    ghost use Rattle.std.specs.Prelude.{min};
+    ghost use Rattle.std.specs.Prelude.{◌+◌, min};
 
     /// An empty depot, whose calls fail where the script says so. A rule with a `land` has `times`
     /// 1.
@@ -180,7 +180,7 @@ fn copy_front(bytes: &[u8], buf: &mut [u8]) -> u64
 }
 
 impl Depot for MemDepot {
-    ghost use Rattle.cu_mem.specs.Memory.{OnlyLands, LandsAndSets, put_late};
+    ghost use Rattle.cu_mem.specs.Memory.{contents, shown_of, OnlyLands, LandsAndSets, put_late};
     ghost use Rattle.cu_mem.specs.Late.{waiting, late_writes};
     ghost use Rattle.cu_mem.specs.Script.{fails, land, next, Raises};
 

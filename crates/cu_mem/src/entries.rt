@@ -54,7 +54,7 @@ pub(crate) struct Slot {
 }
 
 impl Model for Slot {
-    ghost use Rattle.std.specs.Prelude.{Option, option_map};
+    ghost use Rattle.std.specs.Prelude.{ℕ, List, Option, option_map};
 
     ghost Value = { List ℕ × Option (List ℕ) };
 
