@@ -4,12 +4,14 @@ use Rattle.cu_check.specs.Check.{CheckEnds}
 use Rattle.cu_command.specs.declared.status.Status.{Status}
 use Rattle.cu_lower.specs.declared.options.Options.{Options}
 use Rattle.cu_top.proofs.CallLemmas.{refused_text, resume_refused_text, drop_refused_text, begin_refused_text, part_refused_text}
+use Rattle.cu_top.proofs.BeginServed.{begin_served}
 use Rattle.cu_top.proofs.Completeness.{served}
 use Rattle.cu_top.proofs.DemoServed.{demo_served}
 use Rattle.cu_top.proofs.FewFailures.{run_few, resume_few, drop_few, begin_few, part_few, plan_few, load_few, check_few, print_few, demo_few}
+use Rattle.cu_top.proofs.PartServed.{part_caused, part_done}
 use Rattle.cu_top.proofs.PlannedLemmas.{plan_refused_text, plan_served, plan_spared}
 use Rattle.cu_top.proofs.ResumeServed.{caused, went_on}
-use Rattle.cu_top.proofs.TurnedBack.{drop_back, resume_back}
+use Rattle.cu_top.proofs.TurnedBack.{drop_back, part_back, part_lacking, resume_back}
 use Rattle.cu_top.specs.Answered.{TextAnswered, BeginAnswered, PartAnswered, RunAnswered, ResumeAnswered, DropAnswered, PlanAnswered, LoadAnswered, CheckAnswered, PrintAnswered, DemoAnswered}
 use Rattle.cu_work.specs.declared.part.Part.{Part}
 use Rattle.cu_top.specs.Begin.{BeginTells}
@@ -145,6 +147,7 @@ module _ {o : Options} {old new : Scene} {status : Status} (told : BeginTold o o
     refused = begin_text;
     begins = told.tells;
     prints = told.prints;
+    complete = λ text entry left held premise still. begin_served o text entry old new left held premise still status told.tells;
     calls = told.calls;
     few_failures = λ few. begin_few old new o few status told.tells;
   }
@@ -179,6 +182,10 @@ module _ {o : Options} {q : Part} {old new : Scene} {status : Status} (told : Pa
     refused = part_text;
     parts = told.tells;
     prints = told.prints;
+    unrecorded = λ text entry left held none. part_back o old new text entry left held none q status told.tells;
+    lacking = λ text left none. part_lacking o old new text left q none status told.tells;
+    causes = λ text entry left held premise. part_caused o q text entry old new left held premise status told.tells;
+    complete = λ text entry left held premise ready still. part_done o q text entry old new left held premise ready still status told.tells;
     calls = told.calls;
     few_failures = λ few. part_few old new o few q status told.tells;
   }

@@ -25,11 +25,12 @@ use Rattle.cu_command.specs.declared.status.Status.TheVariants.{Done, BadExpr, B
 use Rattle.cu_top.proofs.CallLemmas.{same_text}
 use Rattle.cu_top.proofs.RunLemmas.{piece_listed}
 use Rattle.cu_lower.specs.declared.options.Options.{Options}
+use Rattle.cu_plan.specs.Refusal.{refusal_of}
 use Rattle.cu_top.specs.Ask.{IsInWay}
 use Rattle.cu_top.specs.Call.{CameToRun, RunTells}
-use Rattle.cu_top.specs.Complete.{AreWhole, IsServable, IsAtRest, IsServed}
+use Rattle.cu_top.specs.Complete.{AreWhole, IsServable, IsAtRest, IsServed, IsWayFree}
 use Rattle.cu_top.specs.Prepare.{is_own_input, asked_keys}
-use Rattle.cu_top.specs.Run.{Scene, RunCase, case, job_run, plan_in, IsQuietEntry, IsStarted, IsSpared, HasNoJob, Ran}
+use Rattle.cu_top.specs.Run.{Scene, RunCase, case, job_run, plan_in, IsQuietEntry, IsStarted, IsSpared, HasNoJob, Ran, WasRefused}
 
 -- ---- each other answer lacks its cause
 
@@ -115,25 +116,35 @@ module _ (c : RunCase) (entry : Contents) (told : c.old.depot.held ≡ Some entr
   lands_spared : IsSpared c → Lands (OrLate NoChange c.old.depot.late) (Some entry) c.new.depot.held
   lands_spared spared = subst (λ (h : Option Contents). Lands (OrLate NoChange c.old.depot.late) h c.new.depot.held) told spared.step.lands
 
-  module _ (job : Job) (rest : IsAtRest c.options job entry c.old.depot) where
-    late_on_none : (key : List ℕ) → Contains (asked_keys c.options job) key → (bytes : List ℕ) → IsAmong c.old.depot.late key bytes → ⊥
-    late_on_none key listed = All-contains (λ (k : List ℕ). (bytes : List ℕ) → IsAmong c.old.depot.late k bytes → ⊥) (asked_keys c.options job) key rest.settled listed
+  module _ (planned : (job : Job) → IsJob c.old.depot c.text job → refusal_of c.options job.expr job.types ≡ None) where
+    pub never_refused : (status : Status) → WasRefused c status → ⊥
+    never_refused (BadExpr code node) why = let e = no_fault (fault.Expression code node) why in cc
+    never_refused (BadType code node) why = let e = no_fault (fault.Typing code node) why in cc
+    never_refused (BadMeta name code) why = let e = no_fault (fault.BadMeta name code) why in cc
+    never_refused (NoArray name) why = let e = no_fault (fault.NoArray name) why in cc
+    never_refused (OverMemory node need allowed) (spared, (job, accepted, why)) = none_or_some _ _ (planned job accepted) why
+    never_refused (OverLimit which count) (spared, (job, accepted, why)) = none_or_some _ _ (planned job accepted) why
+    never_refused status why = why
 
-    not_in_way : (key : List ℕ) → IsSpared c → Contains (asked_keys c.options job) key → IsInWay job.expr c.new.depot key → ⊥
+  module _ (job : Job) (way : IsWayFree c.options job entry c.old.depot) where
+    late_on_none : (key : List ℕ) → Contains (asked_keys c.options job) key → (bytes : List ℕ) → IsAmong c.old.depot.late key bytes → ⊥
+    late_on_none key listed = All-contains (λ (k : List ℕ). (bytes : List ℕ) → IsAmong c.old.depot.late k bytes → ⊥) (asked_keys c.options job) key way.settled listed
+
+    pub not_in_way : (key : List ℕ) → IsSpared c → Contains (asked_keys c.options job) key → IsInWay job.expr c.new.depot key → ⊥
     not_in_way key spared listed (inl held) =
         key_before c.old.depot.late entry c.new.depot.held key (lands_spared spared) (late_on_none key listed)
-        (All-contains (IsFree entry) (asked_keys c.options job) key rest.free listed) (lands_told (OrLate NoChange c.old.depot.late) entry c.new.depot.held (lands_spared spared)) held
-    not_in_way key spared listed (inr (is, own)) = true_or_false (is_own_input job.expr) own rest.own
+        (All-contains (IsFree entry) (asked_keys c.options job) key way.free listed) (lands_told (OrLate NoChange c.old.depot.late) entry c.new.depot.held (lands_spared spared)) held
+    not_in_way key spared listed (inr (is, own)) = true_or_false (is_own_input job.expr) own way.own
 
-    module _ (started : IsStarted c job) where
-      calm : IsQuietEntry c job entry
-      calm = record {
-        pieces = λ q bytes piece among. absurd (late_on_none (piece_key (job_run c job) q) (piece_listed c job q started.sound piece) bytes among);
-        inputs = λ k bytes input among. rest.calm (key_of (plan_in c job).arrays k) bytes among (k, input, refl);
-      }
+  module _ (job : Job) (rest : IsAtRest c.options job entry c.old.depot) (started : IsStarted c job) where
+    calm : IsQuietEntry c job entry
+    calm = record {
+      pieces = λ q bytes piece among. absurd (late_on_none job rest.way (piece_key (job_run c job) q) (piece_listed c job q started.sound piece) bytes among);
+      inputs = λ k bytes input among. rest.calm (key_of (plan_in c job).arrays k) bytes among (k, input, refl);
+    }
 
-      no_bad : (key : List ℕ) (got want : ℕ) → IsBadChunk (plan_in c job) c.new.depot key got want → IsInputKey (plan_in c job) key → ⊥
-      no_bad key got want bad input = not_bad c entry told job started calm rest.whole key got want bad input
+    no_bad : (key : List ℕ) (got want : ℕ) → IsBadChunk (plan_in c job) c.new.depot key got want → IsInputKey (plan_in c job) key → ⊥
+    no_bad key got want bad input = not_bad c entry told job started calm rest.whole key got want bad input
 
   module _ (rest : (job : Job) → IsJob c.old.depot c.text job → IsAtRest c.options job entry c.old.depot) where
     served_run : (lack : Bool) (status : Status) → Ran lack c status → IsServed status
@@ -142,27 +153,28 @@ module _ (c : RunCase) (entry : Contents) (told : c.old.depot.held ≡ Some entr
     served_run lack WriteFault ran = none_rose 1 c.old.sink.faults c.new.sink.faults (omega arith) sink ran.0
     served_run lack (DepotFailed key) ran = none_rose (c.options.retries + 1) c.old.depot.faults c.new.depot.faults (omega arith) depot ran.0
     served_run lack (TaskFailed op task) ran = none_rose (c.options.retries + 1) c.old.depot.faults c.new.depot.faults (omega arith) depot ran.0
-    served_run lack (BadExpr code node) ran = let e = no_fault (fault.Expression code node) ran in cc
-    served_run lack (BadType code node) ran = let e = no_fault (fault.Typing code node) ran in cc
-    served_run lack (BadMeta name code) ran = let e = no_fault (fault.BadMeta name code) ran in cc
-    served_run lack (NoArray name) ran = let e = no_fault (fault.NoArray name) ran in cc
-    served_run lack (OverMemory node need allowed) (spared, (job, accepted, why)) = none_or_some _ _ (rest job accepted).planned why
-    served_run lack (OverLimit which count) (spared, (job, accepted, why)) = none_or_some _ _ (rest job accepted).planned why
-    served_run lack (Exists key) (spared, (job, accepted, (planned, (first, way, own)))) = not_in_way job (rest job accepted) key spared first.0 way
+    served_run lack (Exists key) (spared, (job, accepted, (planned, (first, blocked, own)))) = not_in_way job (rest job accepted).way key spared first.0 blocked
     served_run lack (BadChunk key got want) (job, started, (bad, texts, input)) =
         let at_rest = rest job started.accepted in
         no_bad job at_rest started key got want bad (input entry told (started.opens entry told (calm job at_rest started)))
-    served_run lack status ran = absurd ran
+    served_run lack status ran = absurd (never_refused (λ job is. (rest job is).way.planned) status ran)
 
 -- ---- the call
+
+-- what was read is the text that the source had, where that is an expression
+pub of_that_text : (options : Options) (left : List ℕ) (old new : Scene) → old.source.told ≡ Some left → IsTypable old.depot left → (fact : RunCase → Type 0)
+    → CameToRun options old new fact → fact (case options left old new)
+of_that_text options left old new told_left typable fact (text, read, so) =
+    let same : text ≡ left = same_text left text new.source.told typable.expr (subst (λ (t : Option (List ℕ)). ReadsAll t new.source.told text) told_left read) typable.said in
+    subst (λ (t : List ℕ). fact (case options t old new)) same so
 
 module _ (options : Options) (left : List ℕ) (entry : Contents) (old new : Scene) (told_left : old.source.told ≡ Some left) (told : old.depot.held ≡ Some entry)
     (premise : IsServable options left entry old.depot) (source : StoodStill old.source.faults new.source.faults) (sink : StoodStill old.sink.faults new.sink.faults)
     (depot : StoodStill old.depot.faults new.depot.faults) where
   came : (lack : Bool) (status : Status) → CameToRun options old new (λ c. Ran lack c status) → IsServed status
-  came lack status (text, read, ran) =
-      let same : text ≡ left = same_text left text new.source.told premise.typable.expr (subst (λ (t : Option (List ℕ)). ReadsAll t new.source.told text) told_left read) premise.typable.said in
-      served_run (case options left old new) entry told premise.typable depot sink premise.rest lack status (subst (λ (t : List ℕ). Ran lack (case options t old new) status) same ran)
+  came lack status came_so =
+      served_run (case options left old new) entry told premise.typable depot sink premise.rest lack status
+      (of_that_text options left old new told_left premise.typable (λ c. Ran lack c status) came_so)
 
   -- Where all is accepted, nothing is in the way and no count of faults rises, the run is carried out, or memory is wanted.
   pub served : (lack : Bool) (status : Status) → RunTells lack options old new status → IsServed status

@@ -56,7 +56,8 @@ module _ (old new : Scene) where
     begin_few status tells = tt
 
     pub part_few : (q : Part) (status : Status) → PartTells options q old new status → IsNotGivenUp status
-    part_few q (TaskFailed op task) (text, read, (job, parted, (is, why))) = none_so_often options.retries old.depot new.depot few why.2
+    part_few q (TaskFailed op task) (text, read, (job, parted, (is, (w, was, rose)))) =
+        not_so_often options.retries w.asked.faults new.depot.faults old.depot new.depot w.first.count (omega arith) few rose
     part_few q (DepotFailed key) (text, read, inl (rose, rest)) = none_so_often options.retries old.depot new.depot few rose
     part_few q (DepotFailed key) (text, read, inr (spared, (job, parted, (rose, rest)))) = none_so_often options.retries old.depot new.depot few rose
     part_few q status tells = tt

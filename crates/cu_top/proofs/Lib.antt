@@ -2,6 +2,7 @@ mod AbsentTasks
 mod AnsweredLemmas
 mod AskLemmas
 mod BeginLemmas
+mod BeginServed
 mod CallLemmas
 mod CallLimits
 mod Completeness
@@ -21,6 +22,7 @@ mod DropLemmas
 mod FewFailures
 mod HeldLemmas
 mod LawLemmas
+mod PartServed
 mod PartsLemmas
 mod PlanLemmas
 mod PlannedLemmas
@@ -32,6 +34,7 @@ mod ResumeServed
 mod RunLemmas
 mod SampleArrays
 mod SampleLemmas
+mod SamplePart
 mod SampleResume
 mod StartsFew
 mod ToldLemmas

@@ -12,8 +12,8 @@ use Rattle.cu_op.specs.Elements.{Elements}
 use Rattle.cu_run_law.specs.Left.{IsLeft, RunChange}
 use Rattle.cu_run_law.specs.Pieces.{Text, HoldsPiece, chunks_alone}
 use Rattle.cu_run_law.proofs.Keeping.{begun_since, change_alone, left_kept, piece_stays}
-use Rattle.cu_work.specs.Asked.{Search, search_of, AreChosen, IsSoughtInput, IsUnstarted, own_chunks}
-use Rattle.cu_work.specs.Ended.{HasCalled, IsPartDone, IsPartEnd, IsPartFault, count_of}
+use Rattle.cu_work.specs.Asked.{search_of, IsSoughtInput, IsUnstarted, own_chunks}
+use Rattle.cu_work.specs.Ended.{HasCalled, IsPartDone, IsPartEnd, IsPartFault, WereChosen, count_of}
 use Rattle.cu_work.specs.Part.{IsPartOf, LacksChunk, PartPut}
 use Rattle.cu_work.specs.Tried.{chosen_calls}
 use Rattle.cu_work.specs.declared.part.Part.{Part}
@@ -67,23 +67,31 @@ module _ (p : PlanView) (q : Part) (tries : ℕ) (old mid : Shown) (spared : Ste
     unstarted_old (fault.Broken task) why = absurd why
     unstarted_old (fault.BadChunk key got want) why = absurd why
 
+    abbrev chosen_old : WereChosen (search_of p q tries mid) new → WereChosen (search_of p q tries old) new
+    chosen_old w =
+        let own = own_chunks p q (count_of q) in
+        let first : Steps NoChange own (spared.calls + last_count) old w.asked = steps_wider (λ key value change. change) (omega arith) (omega arith) (steps_then spared.step w.first) in
+        record {
+          asked = w.asked;
+          first = steps_ever NoChange own (spared.calls + last_count) old w.asked first;
+          chosen = w.chosen;
+          whole = w.whole;
+          tasks = record { lacking = λ i named. lacks_old q.op (q.from + i) (w.tasks.lacking i named); ready = w.tasks.ready; stored = w.tasks.stored };
+          later = w.later;
+        }
+
     fault_old : (f : PartFault) → IsPartFault (search_of p q tries mid) new f → IsPartFault (search_of p q tries old) new f
     fault_old (fault.Failed key) (why, step) = (unstarted_old (fault.Failed key) why, step_old step)
     fault_old (fault.NotReady task) (why, step) = (unstarted_old (fault.NotReady task) why, step_old step)
-    fault_old (fault.Broken task) (within, lacks, rose) = (within, lacks_old q.op task lacks, rose_old tries rose)
-    fault_old (fault.BadChunk key got want) (bad, input) = (bad, λ env left. input env (left_mid env left))
+    fault_old (fault.Broken task) (w, was, rose) = (chosen_old w, was, rose)
+    fault_old (fault.BadChunk key got want) (w, task, was, (bad, input)) = (chosen_old w, task, was, (bad, λ env left. input env (left_mid env left)))
     fault_old fault.NoMemory (inl step) = inl (step_old step)
     fault_old fault.NoMemory (inr lacks) = inr lacks
 
     done_old : (n : PartCounts) → IsPartDone (search_of p q tries mid) new n → IsPartDone (search_of p q tries old) new n
     done_old n d = record {
-      asked = d.asked;
-      first = steps_ever NoChange 0 (spared.calls + last_count) old d.asked (steps_then spared.step d.first);
-      later = steps_wider put_old (omega arith) (omega arith) d.later;
-      chosen = d.chosen;
-      whole = d.whole;
-      tasks = record { lacking = λ i named. lacks_old q.op (q.from + i) (d.tasks.lacking i named); ready = d.tasks.ready; stored = d.tasks.stored };
-      starts = (d.starts.0, d.starts.1, rose_old n.failures d.starts.2);
+      choice = chosen_old d.choice;
+      starts = d.starts;
       held = λ env task left within. d.held env task (left_mid env left) within;
     }
 

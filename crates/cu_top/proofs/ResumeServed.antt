@@ -1,5 +1,5 @@
 -- A run that goes on from its record: each other answer has a cause that isn't there.
-use Rattle.std.proofs.Common.{◌≡◌, ◌≢◌, ◌⊎◌, inl, inr, ℕ, ◌+◌, ◌<◌, List, length, Option, Some, None, Bool, refl, sym, ap, ◌∙◌, subst, arith}
+use Rattle.std.proofs.Common.{◌≡◌, ◌≢◌, ◌⊎◌, inl, inr, ℕ, ◌+◌, ◌<◌, List, length, Contains, Option, Some, None, Bool, refl, sym, ap, ◌∙◌, subst, arith}
 use Rattle.std.specs.Prelude.{slice_get}
 use Rattle.std.proofs.lemmas.List.Elements.{All-weaker}
 use Rattle.cu_store.specs.Held.{Contents, IsAmong}
@@ -10,14 +10,17 @@ use Rattle.cu_expr.specs.declared.inputs.InputInfo.{InputInfo}
 use Rattle.cu_grid.specs.Grid.{IsCoordinate}
 use Rattle.cu_op.specs.declared.cells.Cell.{Cell}
 use Rattle.cu_op.specs.Arrays.{chunk_room, grid_at, maker_at}
+use Rattle.cu_op.specs.Cells.{tasks_of}
 use Rattle.cu_op.specs.Schedule.{op_of, key_of}
 use Rattle.cu_op.specs.Sound.{Sound}
+use Rattle.cu_op.specs.Walks.{read_chunks}
 use Rattle.cu_op.proofs.TaskCells.{fit_of, read_array}
 use Rattle.cu_region.specs.Steady.{HoldsLength}
 use Rattle.cu_run_law.specs.Left.{RunChange}
 use Rattle.cu_run_law.specs.Pieces.{Text, Chunk, IsInputChunk, IsPiece, KeysApart}
 use Rattle.cu_run_law.proofs.Keeping.{left_kept}
 use Rattle.cu_work.specs.Drive.{IsBadChunk, IsInputKey}
+use Rattle.cu_work.specs.Tried.{IsBadRead, task_id}
 use Rattle.cu_command.proofs.JobLemmas.{only_memory}
 use Rattle.cu_command.specs.Inputs.{IsReadAt, IsRefusedAt, IsTurn}
 use Rattle.cu_command.specs.Job.{IsJob, IsJobFault, IsIllTyped, IsTypable, StoodStill}
@@ -100,11 +103,11 @@ module _ (entry now : Shown) (text : List ℕ) where
 same_value : (v w : Option (List ℕ)) (a b : List ℕ) → v ≡ w → v ≡ Some a → w ≡ Some b → a ≡ b
 same_value v w a b same one other = cc
 
-absent_or : (v : Option (List ℕ)) (a : List ℕ) → v ≡ None → v ≡ Some a → ⊥
+pub absent_or : (v : Option (List ℕ)) (a : List ℕ) → v ≡ None → v ≡ Some a → ⊥
 absent_or v a none some = cc
 
 module _ (c : RunCase) (job : Job) (entry : Contents) (rest : IsLeftRecorded c.options job entry c.old.depot) where
-  never_other : (place : ℕ) → IsSpared c → HoldsOther c.new.depot.held (record_key_of job.expr.store_as) (record_text c.options job) place → ⊥
+  pub never_other : (place : ℕ) → IsSpared c → HoldsOther c.new.depot.held (record_key_of job.expr.store_as) (record_text c.options job) place → ⊥
   never_other place spared other =
       let left = left_kept (job_run c job) (env_of c job entry) c.old.depot rest.left 0 spared.calls c.new.depot (steps_none spared.step) in
       let (bytes, is, (same, differ)) = subst (λ (h : Option Contents). HoldsOther h (record_key_of job.expr.store_as) (record_text c.options job) place) left.told other in
@@ -119,7 +122,7 @@ module _ (c : RunCase) (job : Job) (entry : Contents) (rest : IsLeftRecorded c.o
 -- ---- a chunk of an input
 
 module _ (c : RunCase) (job : Job) (entry : Contents) (told : c.old.depot.held ≡ Some entry) (sound : Sound (plan_in c job)) (apart : KeysApart (job_run c job))
-    (step : Stepped (RunChange (job_run c job) c.old.depot) c.old.depot c.new.depot) (whole : AreWhole (plan_in c job) entry)
+    (step : Stepped (RunChange (job_run c job) c.old.depot) c.old.depot c.new.depot)
     (calm : (k : Cell) (bytes : List ℕ) → IsInputChunk (plan_in c job).arrays k → IsAmong c.old.depot.late (key_of (plan_in c job).arrays k) bytes → entry (key_of (plan_in c job).arrays k) ≡ Some bytes) where
   lands : Lands (OrLate (RunChange (job_run c job) c.old.depot) c.old.depot.late) (Some entry) c.new.depot.held
   lands = subst (λ (h : Option Contents). Lands (OrLate (RunChange (job_run c job) c.old.depot) c.old.depot.late) h c.new.depot.held) told step.step.lands
@@ -127,35 +130,44 @@ module _ (c : RunCase) (job : Job) (entry : Contents) (told : c.old.depot.held �
   own : (k : Cell) → IsInputChunk (plan_in c job).arrays k → (value : Option (List ℕ)) → RunChange (job_run c job) c.old.depot (key_of (plan_in c job).arrays k) value → ⊥
   own k input value (q, bytes, piece, at, is, valued) = apart.inputs q k piece input (sym at)
 
-  whole_input : (k : Cell) (key : List ℕ) (got want : ℕ) → IsInputChunk (plan_in c job).arrays k → key ≡ key_of (plan_in c job).arrays k → want ≡ chunk_room (plan_in c job).arrays k.array
+  -- the chunk is absent or whole at first
+  abbrev pub IsWhole : Cell → Type 0
+  IsWhole k = (bytes : List ℕ) → entry (key_of (plan_in c job).arrays k) ≡ Some bytes → length bytes ≡ chunk_room (plan_in c job).arrays k.array
+
+  whole_input : (k : Cell) (key : List ℕ) (got want : ℕ) → IsInputChunk (plan_in c job).arrays k → IsWhole k → key ≡ key_of (plan_in c job).arrays k → want ≡ chunk_room (plan_in c job).arrays k.array
       → got ≢ want → HoldsLength c.new.depot.held key got → ⊥
-  whole_input k key got want input is_key is_want differ holds =
+  whole_input k key got want input fits is_key is_want differ holds =
       let (bytes, was, long) = length_before (RunChange (job_run c job) c.old.depot) c.old.depot.late entry c.new.depot.held (key_of (plan_in c job).arrays k) got lands (own k input)
       (λ bytes among. calm k bytes input among) (subst (λ (x : List ℕ). HoldsLength c.new.depot.held x got) is_key holds)
       (lands_told (OrLate (RunChange (job_run c job) c.old.depot) c.old.depot.late) entry c.new.depot.held lands) in
-      differ (sym long ∙ whole k bytes input was ∙ sym is_want)
+      differ (sym long ∙ fits bytes was ∙ sym is_want)
 
   not_made : (k : Cell) (key : List ℕ) → IsPiece (job_run c job) (Chunk k) → key ≡ key_of (plan_in c job).arrays k → IsInputKey (plan_in c job) key → ⊥
   not_made k key piece is_key (other, input, same) = apart.inputs (Chunk k) other piece input (sym is_key ∙ same)
 
-  pub never_bad : (key : List ℕ) (got want : ℕ) → IsBadChunk (plan_in c job) c.new.depot key got want → IsInputKey (plan_in c job) key → ⊥
-  never_bad key got want (op, task, k, first, number, listed, is_key, is_want, differ, holds) of_input =
+  -- a chunk that a task reads isn't of another length, if it is whole where it is an input's
+  pub never_bad : (key : List ℕ) (got want : ℕ) (op task : ℕ) → op < length (plan_in c job).ops → task < tasks_of (plan_in c job).arrays (op_of (plan_in c job) op)
+      → IsBadRead (plan_in c job) (task_id op task) c.new.depot key got want
+      → ((k : Cell) → Contains (read_chunks (plan_in c job).arrays (op_of (plan_in c job) op) task) k → IsInputChunk (plan_in c job).arrays k → IsWhole k) → IsInputKey (plan_in c job) key → ⊥
+  never_bad key got want op task first number (k, listed, is_key, is_want, differ, holds) whole of_input =
       let read = read_array (plan_in c job) sound op (op_of (plan_in c job) op) (fit_of (plan_in c job) sound op first) task k number listed in
       by_maker (maker_at (plan_in c job).arrays k.array) refl read.1.0 read.1.1
     where
       by_maker : (m : Option ℕ) → maker_at (plan_in c job).arrays k.array ≡ m → (k.array < length (plan_in c job).arrays) → IsCoordinate (grid_at (plan_in c job).arrays k.array) k.coord → ⊥
-      by_maker None given within coordinate = whole_input k key got want (record { within = within; given = given; coordinate = coordinate }) is_key is_want differ holds
+      by_maker None given within coordinate =
+          let input : IsInputChunk (plan_in c job).arrays k = record { within = within; given = given; coordinate = coordinate } in
+          whole_input k key got want input (whole k listed input) is_key is_want differ holds
       by_maker (Some n) made within coordinate =
           not_made k key (record { within = within; made = λ none. none_or_some (maker_at (plan_in c job).arrays k.array) n none made; coordinate = coordinate }) is_key of_input
 
-some_same : (a b : Contents) → ◌≡◌ {A = Option Contents} (Some a) (Some b) → a ≡ b
+pub some_same : (a b : Contents) → ◌≡◌ {A = Option Contents} (Some a) (Some b) → a ≡ b
 some_same a b e = cc
 
 -- ---- the answers
 
 module _ (c : RunCase) (entry : Contents) (told : c.old.depot.held ≡ Some entry) (typable : IsTypable c.old.depot c.text)
     (rest : (job : Job) → IsJob c.old.depot c.text job → IsLeftRecorded c.options job entry c.old.depot) where
-  never_unread : (f : JobFault) → HasNoJob c f → (f ≡ fault.NoMemory → ⊥) → ((key : List ℕ) → f ≡ fault.DepotFailed key → ⊥) → ⊥
+  pub never_unread : (f : JobFault) → HasNoJob c f → (f ≡ fault.NoMemory → ⊥) → ((key : List ℕ) → f ≡ fault.DepotFailed key → ⊥) → ⊥
   never_unread f why memory failed = elim (fault_so c.old.depot c.new.depot c.text typable c.options.retries f why.1) [
     | inl e ↦ memory e
     | inr (key, e) ↦ failed key e
@@ -182,11 +194,12 @@ module _ (c : RunCase) (entry : Contents) (told : c.old.depot.held ≡ Some entr
   module _ (whole : (job : Job) → IsJob c.old.depot c.text job → AreWhole (plan_in c job) entry) (depot : StoodStill c.old.depot.faults c.new.depot.faults)
       (sink : StoodStill c.old.sink.faults c.new.sink.faults) where
     bad_never : (key : List ℕ) (got want : ℕ) (job : Job) → IsResumed c job → IsBadChunk (plan_in c job) c.new.depot key got want → IsInputKey (plan_in c job) key → ⊥
-    bad_never key got want job resumed bad input =
+    bad_never key got want job resumed (op, task, k, first, number, listed, is_key, is_want, differ, holds) input =
         let left = (rest job resumed.reopened.accepted).left in
         let same : left.held ≡ entry = some_same left.held entry (sym left.told ∙ told) in
-        never_bad c job entry told resumed.reopened.sound resumed.reopened.apart resumed.step (whole job resumed.reopened.accepted)
-        (λ k bytes chunk among. ap (λ (h : Contents). h (key_of (plan_in c job).arrays k)) (sym same) ∙ left.quiet.inputs k bytes chunk among) key got want bad input
+        never_bad c job entry told resumed.reopened.sound resumed.reopened.apart resumed.step
+        (λ k bytes chunk among. ap (λ (h : Contents). h (key_of (plan_in c job).arrays k)) (sym same) ∙ left.quiet.inputs k bytes chunk among) key got want op task first number
+        (k, listed, is_key, is_want, differ, holds) (λ x inside chunk bytes is. whole job resumed.reopened.accepted x bytes chunk is) input
 
     pub resume_served : (lack : Bool) (status : Status) → WasResumed lack c status → IsServed status
     resume_served lack Done why = tt

@@ -39,11 +39,11 @@ use Rattle.cu_command.specs.declared.job.Job.{Job}
 use Rattle.cu_lower.specs.Parts.{made_layout}
 use Rattle.cu_run_law.specs.Pieces.{IsInputChunk}
 use Rattle.cu_work.specs.Order.{IsFree, plan_keys}
-use Rattle.cu_top.specs.Complete.{AreWhole, IsAtRest, IsPlannable, IsServable}
+use Rattle.cu_top.specs.Complete.{AreWhole, IsAtRest, IsBeginnable, IsPlannable, IsServable, IsWayFree}
 use Rattle.cu_top.specs.Prepare.{asked_keys, is_own_input, job_plan}
-use Rattle.cu_top.specs.Sample.{sample_options, sample_with, shown_with, sample_input, sample_layout, sample_metadata, sample_chunk, sample_held, sample_shown, sample_late, sample_text, sample_run, sample_plan}
+use Rattle.cu_top.specs.Sample.{sample_options, sample_with, shown_with, sample_input, sample_layout, sample_metadata, sample_chunk, sample_held, sample_shown, sample_late, sample_text, sample_run, sample_begin, sample_plan}
 use Rattle.cu_words.specs.Words.{line_given}
-use Rattle.cu_top.specs.Words.{command_of, plan, run}
+use Rattle.cu_top.specs.Words.{command_of, begin, plan, run}
 
 abbrev pub copied : Expression
 copied = record { nodes = record { name = codes "x"; form = Form.Input (codes "x") } ∷ record { name = codes "t"; form = Form.Rechunk (Arg.Node 0 ∷ []) (3 ∷ []) } ∷ []; out = 1; store_as = codes "y" }
@@ -67,6 +67,10 @@ has_plan = refl
 pub run_given : command_of sample_run ≡ Ok (run sample_options)
 unfolding command_of line_given
 run_given = refl
+
+pub begin_given : command_of sample_begin ≡ Ok (begin sample_options)
+unfolding command_of line_given
+begin_given = refl
 
 pub plan_given : command_of sample_plan ≡ Ok (plan sample_options)
 unfolding command_of line_given
@@ -260,18 +264,26 @@ module _ (recorded : Option (List ℕ)) (job : Job) (is : IsJob (shown_with reco
       subst (λ (xs : List ArrayInfo). IsInputChunk xs k → sample_with recorded (key_of xs k) ≡ Some bytes → length bytes ≡ chunk_room xs k.array) (sym arrays) (whole recorded k bytes)
 
 module _ (job : Job) (is : IsJob sample_shown sample_text job) where
-  at_rest : IsAtRest sample_options job sample_held sample_shown
-  at_rest = record {
+  way_free : IsWayFree sample_options job sample_held sample_shown
+  way_free = record {
     planned = planned None job is;
     own = subst (λ (e : Expression). is_own_input e ≡ false) (sym (expr_is None job is)) refl;
     free = subst (All (IsFree sample_held)) (sym (asked_are None job is)) all_free;
     settled = subst (All IsSettled) (sym (asked_are None job is)) all_settled;
+  }
+
+  at_rest : IsAtRest sample_options job sample_held sample_shown
+  at_rest = record {
+    way = way_free;
     calm = λ key bytes among input. held_chunk None key bytes among;
     whole = whole_plan None job is;
   }
 
 pub servable : IsServable sample_options sample_text sample_held sample_shown
 servable = record { typable = typable None; rest = at_rest }
+
+pub beginnable : IsBeginnable sample_options sample_text sample_held sample_shown
+beginnable = record { typable = typable None; way = way_free }
 
 pub plannable : IsPlannable sample_options sample_text sample_shown
 plannable = record { typable = typable None; planned = planned None }

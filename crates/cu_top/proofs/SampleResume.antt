@@ -99,7 +99,7 @@ read_info = record { ranks = refl; short = omega arith; positive = one_axis 5 (o
 copy_info : IsInfo (info_of Int16 (7 ∷ []) (3 ∷ []))
 copy_info = record { ranks = refl; short = omega arith; positive = one_axis 3 (omega arith); elements = omega arith; chunks = omega arith; bytes = omega arith }
 
-lowerable : IsLowerable copied infos inputs sample_options
+pub lowerable : IsLowerable copied infos inputs sample_options
 lowerable = record {
   form = expression;
   types = has_types;

@@ -27,9 +27,10 @@ use Rattle.cu_top.specs.Parts.{PartTells, PartsWithin}
 use Rattle.cu_top.specs.Call.{AreSpared, CameToRun, IsExpressionRefused, IsReadFault, IsShort}
 use Rattle.cu_top.specs.Call.{RunTells}
 use Rattle.cu_top.specs.Calls.{RunsWithin, ResumesWithin, DropsWithin, DemosWithin}
-use Rattle.cu_top.specs.Complete.{FewFailed, HasWholeInputs, IsNotGivenUp, IsPlannable}
+use Rattle.cu_top.specs.Complete.{FewFailed, HasNoSuchTasks, HasPartReady, HasWholeInputs}
+use Rattle.cu_top.specs.Complete.{IsBeginnable, IsNotGivenUp, IsPartCause, IsPlannable}
 use Rattle.cu_top.specs.Complete.{IsResumable, IsResumeCause, IsServable, IsServed}
-use Rattle.cu_top.specs.Complete.{IsTurnedBack, IsUnrecorded}
+use Rattle.cu_top.specs.Complete.{IsTurnedBack, IsUnrecorded, RanNoPart}
 use Rattle.cu_top.specs.Demo.{DemoTells, IsDemoAsked, IsDemoAtRest, IsDemoBadChunk}
 use Rattle.cu_top.specs.Demo.{IsDemoDone, IsDemoKeyFailed, IsDemoShort, IsDemoTaskFailed}
 use Rattle.cu_top.specs.Demo.{IsDemoUnplanned, IsDemoUnprinted, demo_between}
@@ -186,6 +187,11 @@ pub record BeginAnswered (o : Options) (old new : Scene) (status : Status) : Typ
   pub begins : BeginTells o old new status
   -- nothing but the plan is printed
   pub prints : PrintsOnly status old.sink.told new.sink.told
+  -- where all is accepted, the way is free and nothing fails, it is served: Done, or memory was
+  -- wanted
+  pub complete : (text : List ℕ) (entry : Contents) → old.source.told ≡ Some text
+      → old.depot.held ≡ Some entry → IsBeginnable o text entry old.depot → NothingFailed old new
+      → IsServed status
   -- how many calls of the depot it makes at most
   pub calls : BeginsWithin o old new status
   -- where few calls fail, no key is given up
@@ -204,10 +210,10 @@ pub record PartAnswered (o : Options) (q : Part) (old new : Scene) (status : Sta
   -- 21: this task was to start, and lacks a made chunk that it reads
   pub not_ready : (op task : ℕ) → status ≡ NotReady op task
       → CameToRun o old new (λ c. IsTooEarly c q op task)
-  -- 10: this task failed as often as it is tried
+  -- 10: this task was started and failed as often as it is tried
   pub task_failed : (op task : ℕ) → status ≡ TaskFailed op task
       → CameToRun o old new (λ c. IsPartedBroken c q op task)
-  -- 13: this chunk of an input has another length
+  -- 13: this chunk of an input, which a task reads that was started, has another length
   pub bad_chunk : (key : List ℕ) (got want : ℕ) → status ≡ BadChunk key got want
       → CameToRun o old new (λ c. IsPartedBad c q key got want)
   -- 14: the record is another plan's
@@ -227,6 +233,22 @@ pub record PartAnswered (o : Options) (q : Part) (old new : Scene) (status : Sta
   pub parts : PartTells o q old new status
   -- nothing but the report is printed
   pub prints : PrintsOnly status old.sink.told new.sink.told
+  -- where the record of the text's job isn't held, nor a put of it late, nothing behind it comes
+  pub unrecorded : (text : List ℕ) (entry : Contents) → old.source.told ≡ Some text
+      → old.depot.held ≡ Some entry → IsUnrecorded o text entry old.depot → IsTurnedBack status
+  -- where the plan of the text's job hasn't these tasks, none of them is run
+  pub lacking : (text : List ℕ) → old.source.told ≡ Some text → HasNoSuchTasks o q text old.depot
+      → RanNoPart status
+  -- from its record and what its plan left, it fails by few causes alone: of the answers that don't
+  -- come of the source, the depot or memory, 20 comes exactly where the plan hasn't these tasks
+  pub causes : (text : List ℕ) (entry : Contents) → old.source.told ≡ Some text
+      → old.depot.held ≡ Some entry → IsResumable o text entry old.depot
+      → IsPartCause o q text old.depot status
+  -- where, besides, the plan has these tasks, each of them lacks no chunk or no made input, each
+  -- chunk of an input that one reads is absent or whole, and nothing fails, it is served
+  pub complete : (text : List ℕ) (entry : Contents) → old.source.told ≡ Some text
+      → old.depot.held ≡ Some entry → IsResumable o text entry old.depot
+      → HasPartReady o q text entry old.depot → NothingFailed old new → IsServed status
   -- how many calls of the depot it makes at most
   pub calls : PartsWithin o q old new status
   -- where few calls fail, neither a task nor a key is given up

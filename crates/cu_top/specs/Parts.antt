@@ -94,12 +94,14 @@ abbrev pub IsTooEarly : RunCase → Part → ℕ → ℕ → Type 0
 IsTooEarly c q op task = IsSpared c × Parted c q (λ job. (op ≡ q.op)
     × IsUnstarted (search_in c job q) c.new.depot (fault.NotReady task))
 
--- 10: all tries of this task failed, which lacked a chunk when the command began
+-- 10: all tries of this task failed, which was chosen, since it lacked a chunk when the command began
+-- and had the made inputs that it reads; the faults are counted from the choice on
 abbrev pub IsPartedBroken : RunCase → Part → ℕ → ℕ → Type 0
 IsPartedBroken c q op task = Parted c q (λ job. (op ≡ q.op)
     × IsPartFault (search_in c job q) c.new.depot (fault.Broken task))
 
--- 13: this chunk of an input, which a task reads, holds `got` bytes and not the `want` bytes of a chunk
+-- 13: this chunk of an input, which a task of the part reads that was chosen so, holds `got` bytes and
+-- not the `want` bytes of a chunk
 abbrev pub IsPartedBad : RunCase → Part → List ℕ → ℕ → ℕ → Type 0
 IsPartedBad c q key got want = Parted c q (λ job.
     IsPartFault (search_in c job q) c.new.depot (fault.BadChunk key got want))

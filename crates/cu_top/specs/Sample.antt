@@ -14,6 +14,7 @@ use Rattle.cu_store.specs.Held.{Contents, Write}
 use Rattle.cu_store.specs.Steps.{Shown}
 use Rattle.cu_read.specs.Read.{compact_of}
 use Rattle.cu_top.specs.Record.{inputs_text, joined}
+use Rattle.cu_work.specs.declared.part.Part.{Part}
 use Rattle.cu_zarr.specs.Metadata.{metadata_text}
 
 -- 7 numbers of 2 bytes in chunks of 5
@@ -77,9 +78,12 @@ sample_options = record {
   backups = false;
 }
 
--- the words of a run and of a plan
+-- the words of a run, of one that is only begun, and of a plan
 abbrev pub sample_run : List (List ℕ)
 sample_run = codes "run" ∷ codes "--allowed-mem" ∷ codes "64" ∷ []
+
+abbrev pub sample_begin : List (List ℕ)
+sample_begin = codes "begin" ∷ codes "--allowed-mem" ∷ codes "64" ∷ []
 
 abbrev pub sample_plan : List (List ℕ)
 sample_plan = codes "plan" ∷ codes "--allowed-mem" ∷ codes "64" ∷ []
@@ -91,6 +95,15 @@ sample_record =
 
 abbrev pub sample_resume : List (List ℕ)
 sample_resume = codes "resume" ∷ codes "--allowed-mem" ∷ codes "64" ∷ []
+
+-- its first task, and the words that have it run
+abbrev pub sample_tasks : Part
+sample_tasks = record { op = 0; from = 0; to = 1 }
+
+abbrev pub sample_part : List (List ℕ)
+sample_part =
+    codes "part" ∷ codes "--allowed-mem" ∷ codes "64" ∷ codes "--op" ∷ codes "0" ∷ codes "--from"
+    ∷ codes "0" ∷ codes "--to" ∷ codes "1" ∷ []
 
 -- the store once it holds the record
 abbrev pub left_held : Contents

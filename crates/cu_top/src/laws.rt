@@ -12,7 +12,7 @@ ghost use Rattle.cu_load.specs.Load.{IsArrayCalm};
 ghost use Rattle.cu_print.specs.Print.{IsArrayMetadata, IsChunkAt};
 ghost use Rattle.cu_work.specs.declared.part.Part.{Part};
 ghost use Rattle.cu_top.specs.Begin.{WasBegun};
-ghost use Rattle.cu_top.specs.Complete.{HasWholeInputs, IsPlannable, IsResumable, IsServable};
+ghost use Rattle.cu_top.specs.Complete.{HasPartReady, HasWholeInputs, IsBeginnable, IsPlannable, IsResumable, IsServable};
 ghost use Rattle.cu_top.specs.Demo.{IsDemoAtRest, IsDemoCalm};
 ghost use Rattle.cu_top.specs.Drop.{Dropped};
 ghost use Rattle.cu_top.specs.Laws.{IsOfPlan};
@@ -20,9 +20,9 @@ ghost use Rattle.cu_top.specs.Parts.{WasParted};
 ghost use Rattle.cu_top.specs.Resume.{WasResumed};
 ghost use Rattle.cu_top.specs.Run.{RunCase, IsSpared, Ran};
 ghost use Rattle.cu_top.specs.Sample.{demo_options, empty_held, empty_shown, left_held, left_shown};
-ghost use Rattle.cu_top.specs.Sample.{sample_array, sample_resume};
+ghost use Rattle.cu_top.specs.Sample.{sample_array, sample_begin, sample_part, sample_resume, sample_tasks};
 ghost use Rattle.cu_top.specs.Sample.{sample_held, sample_input, sample_late, sample_layout, sample_options, sample_plan, sample_run, sample_shown, sample_text};
-ghost use Rattle.cu_top.specs.Words.{command_of, plan, resume, run};
+ghost use Rattle.cu_top.specs.Words.{command_of, begin, part, plan, resume, run};
 
 use cu_plan::merged_plan_law;
 use cu_run_law::left_law;
@@ -47,15 +47,20 @@ pub fn list_law()
 
 /// The premises of the commands are met by a small store, which holds the metadata and one chunk of an array, and where a put of this
 /// chunk is late: `run` is served there, and so are `plan` and, where the record is held too, `resume`; what is late carries what `load`
-/// stores; and what `print` and `check` say of keys that no late put changes holds. A demonstration is served over an empty store.
+/// stores; and what `print` and `check` say of keys that no late put changes holds. So is `begin` where `run` is, and `part`, of the
+/// first task of the plan, where `resume` is. A demonstration is served over an empty store.
 pub fn premises_law()
     ensures run_words { command_of sample_run ≡ Ok (run sample_options) }
     ensures run { IsServable sample_options sample_text sample_held sample_shown }
+    ensures begin_words { command_of sample_begin ≡ Ok (begin sample_options) }
+    ensures begin { IsBeginnable sample_options sample_text sample_held sample_shown }
     ensures plan_words { command_of sample_plan ≡ Ok (plan sample_options) }
     ensures plan { IsPlannable sample_options sample_text sample_shown }
     ensures resume_words { command_of sample_resume ≡ Ok (resume sample_options) }
     ensures resume { IsResumable sample_options sample_text left_held left_shown }
     ensures resume_whole { HasWholeInputs sample_options sample_text left_held left_shown }
+    ensures part_words { command_of sample_part ≡ Ok (part sample_options sample_tasks) }
+    ensures part_ready { HasPartReady sample_options sample_tasks sample_text left_held left_shown }
     ensures load { IsArrayCalm sample_array sample_late }
     ensures demo { IsDemoAtRest demo_options 2 empty_held empty_shown }
     ensures demo_quiet { IsDemoCalm demo_options 2 empty_shown }

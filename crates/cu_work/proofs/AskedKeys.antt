@@ -113,45 +113,50 @@ lacks_input_before p k task l m old new step lacks held told =
 
 module _ (s : Search) (own : ℕ) (known : List ℕ → Bool) (old : Shown) (a : IsAsking s own known old) where
   pub asked_of : HasAsked s own old
-  asked_of = record { inputs = a.inputs; differ = a.differ; sought = a.sought; step = a.step }
+  asked_of = record {
+    inputs = a.inputs;
+    differ = a.differ;
+    sought = a.sought;
+    step = steps_wider (λ k value change. change) (omega arith) (omega arith) a.step;
+  }
 
   -- a key that is known is held
   pub known_held : (key : List ℕ) → known key ≡ true → IsHeldIn old.held key
   known_held key holds_so = All-contains (IsHeldIn old.held) a.inputs key a.held (has_contains a.inputs key (sym (a.same key) ∙ holds_so))
 
-  -- no call, of keys that tasks write
+  -- calls for so many keys that tasks write, at least so many of them
+  calls_wider : (least len : ℕ) (new : Shown) → Steps NoChange least (s.tries * len) old new → Steps NoChange (own + least) (s.tries * ((own + len) + length a.inputs)) s.start new
+  calls_wider least len new step =
+      let n = length a.inputs in
+      let x = mul-add s.tries own n in
+      let y = mul-add s.tries (own + len) n in
+      let z = mul-add s.tries own len in
+      steps_wider (λ k value change. change) (omega arith) (omega (arith, x, y, z)) (steps_then a.step step)
+
   pub asked_wider : (len : ℕ) (new : Shown) → Steps NoChange 0 (s.tries * len) old new → HasAsked s (own + len) new
   asked_wider len new step = record {
     inputs = a.inputs;
     differ = a.differ;
     sought = a.sought;
-    step =
-        let n = length a.inputs in
-        let x = mul-add s.tries own n in
-        let y = mul-add s.tries (own + len) n in
-        let z = mul-add s.tries own len in
-        steps_wider (λ k value change. change) (omega arith) (omega (arith, x, y, z)) (steps_then a.step step);
+    step = steps_wider (λ k value change. change) (omega arith) (omega arith) (calls_wider 0 len new step);
   }
 
-  pub own_asked : (len : ℕ) (new : Shown) → Steps NoChange 0 (s.tries * len) old new → IsAsking s (own + len) known new
-  unfolding asked_wider
-  own_asked len new step =
-      let more = asked_wider len new step in
-      record {
-        inputs = a.inputs;
-        same = a.same;
-        differ = a.differ;
-        sought = a.sought;
-        step = more.step;
-        held = All-weaker (IsHeldIn old.held) (IsHeldIn new.held) (held_on 0 (s.tries * len) old new step) a.inputs a.held;
-      }
+  pub own_asked : (len : ℕ) (new : Shown) → Steps NoChange len (s.tries * len) old new → IsAsking s (own + len) known new
+  own_asked len new step = record {
+    inputs = a.inputs;
+    same = a.same;
+    differ = a.differ;
+    sought = a.sought;
+    step = calls_wider len len new step;
+    held = All-weaker (IsHeldIn old.held) (IsHeldIn new.held) (held_on len (s.tries * len) old new step) a.inputs a.held;
+  }
 
   -- an input that isn't known yet
   module _ (key : List ℕ) (unknown : known key ≡ false) (sought : IsSoughtInput s key) (new : Shown) (step : Steps NoChange 1 s.tries old new) where
     differs : Contains a.inputs key → ⊥
     differs there = let holds_so = contains_has a.inputs key there in let fails_so = a.same key in cc
 
-    input_step : Steps NoChange 0 (s.tries * (own + length (key ∷ a.inputs))) s.start new
+    input_step : Steps NoChange own (s.tries * (own + length (key ∷ a.inputs))) s.start new
     input_step =
         let n = length a.inputs in
         let x = mul-add s.tries (own + n) 1 in
@@ -163,7 +168,7 @@ module _ (s : Search) (own : ℕ) (known : List ℕ → Bool) (old : Shown) (a :
       inputs = key ∷ a.inputs;
       differ = (differs, a.differ);
       sought = All-cons (IsSoughtInput s) key a.inputs sought a.sought;
-      step = input_step;
+      step = steps_wider (λ k value change. change) (omega arith) (omega arith) input_step;
     }
 
     pub input_found : (later : List ℕ → Bool) → ((other : List ℕ) → later other ≡ (known other || bytes_eq key other)) → IsHeldIn new.held key → IsAsking s own later new

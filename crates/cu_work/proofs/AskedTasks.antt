@@ -186,13 +186,14 @@ module _ (p : PlanView) (q : Part) (tries task : ℕ) (old new : Shown) where
   len = length (written_chunks p.arrays (op_of p q.op) task)
 
   module _ (all : Bool) (asked : AreAsked tries (task_keys p q.op task) old new all) where
-    pub task_step : Steps NoChange 0 (tries * len) old new
+    pub task_step : Steps NoChange len (tries * len) old new
     task_step =
-        let n = ap (λ k. tries * k) (keys_count p q.op task) in
-        steps_wider (λ k value change. change) (omega arith) (omega (arith, n)) asked.step
+        let e = keys_count p q.op task in
+        let n = ap (λ k. tries * k) e in
+        steps_wider (λ k value change. change) (omega (arith, e)) (omega (arith, n)) asked.step
 
     pub task_ever : Steps NoChange 0 last_count old new
-    task_ever = steps_ever NoChange 0 (tries * len) old new task_step
+    task_ever = steps_ever NoChange 0 (tries * len) old new (steps_wider (λ k value change. change) (omega arith) (omega arith) task_step)
 
     pub task_stored : all ≡ true → (held : Contents) → new.held ≡ Some held → IsStored p held q.op task
     task_stored holds_so held told = stored_of p q.op task new.held held told (asked.held holds_so)
@@ -244,7 +245,7 @@ module _ (p : PlanView) (q : Part) (tries task : ℕ) (within : IsInPart q task)
 
   module _ (now : Shown) (asked : AreAsked tries (task_keys p q.op task) old now false) where
     pub lacks_first : LacksChunk p q.op task start
-    lacks_first = lacks_chunk_before p q.op task 0 (tries * (own + length a.inputs)) start old a.step (task_lacks p q tries task old now false asked refl)
+    lacks_first = lacks_chunk_before p q.op task own (tries * (own + length a.inputs)) start old a.step (task_lacks p q tries task old now false asked refl)
 
     pub asking_on : IsAsking (search_of p q tries start) (own + chunks) known now
     asking_on = own_asked (search_of p q tries start) own known old a chunks now (task_step p q tries task old now false asked)
@@ -253,7 +254,7 @@ module _ (p : PlanView) (q : Part) (tries task : ℕ) (within : IsInPart q task)
         → HasAsked (search_of p q tries start) (own + chunks) new × IsChoiceFault (search_of p q tries start) task new (part.NotReady task)
     lacking_fault new lacks has = (
       has,
-      (refl, lacks_first, lacks_input_before p q.op task 0 (tries * ((own + chunks) + length asking_on.inputs)) start now asking_on.step lacks),
+      (refl, lacks_first, lacks_input_before p q.op task (own + chunks) (tries * ((own + chunks) + length asking_on.inputs)) start now asking_on.step lacks),
     )
 
     input_fault : (new : Shown) (f : FindFault) → IsInputFault tries (now, new) (IsMadeInput p q.op task) f → IsChoiceFault (search_of p q tries start) task new (fault_of f)
@@ -424,6 +425,13 @@ module _ (p : PlanView) (q : Part) (tries : ℕ) (start : Shown) (task : ℕ) (k
 
   pub all_asked : (n : ℕ) → task - q.from ≤ n → HasAsked (search_of p q tries start) (own_chunks p q n) now
   all_asked n below = asked_most p q tries start now (task - q.from) n below (asked_of (search_of p q tries start) (own_chunks p q (task - q.from)) known now so_far.asking)
+
+  -- at the end, with a call at least for each chunk that the tasks write
+  pub all_called : (n : ℕ) → task - q.from ≡ n → Steps NoChange (own_chunks p q n) last_count start now
+  all_called n is =
+      let asking = so_far.asking in
+      subst (λ (k : ℕ). Steps NoChange (own_chunks p q k) last_count start now) is
+      (steps_ever NoChange (own_chunks p q (task - q.from)) (tries * (own_chunks p q (task - q.from) + length asking.inputs)) start now asking.step)
 
   module _ (known1 : List ℕ → Bool) (new : Shown) (step : Steps NoChange 0 last_count now new) where
     pub chosen_next : (b : Bool) → IsAsking (search_of p q tries start) (own_chunks p q (task - q.from) + length (written_chunks p.arrays (op_of p q.op) task)) known1 new

@@ -19,8 +19,8 @@ use Rattle.cu_work.proofs.AskedKeys.{steps_ever}
 use Rattle.cu_work.proofs.TriedTasks.{chosen_runs}
 use Rattle.cu_run_law.proofs.Elements.{HaveRanges}
 use Rattle.cu_work.specs.Asked.{Search, search_of, AreChosen, HasAsked, IsChosenAt, IsUnstarted, own_chunks}
-use Rattle.cu_work.specs.Ended.{HasCalled, IsPartDone, IsPartEnd, IsPartFault, count_of}
-use Rattle.cu_work.specs.Part.{IsInPart, IsPartOf, LacksChunk, PartPut}
+use Rattle.cu_work.specs.Ended.{HasCalled, IsPartDone, IsPartEnd, IsPartFault, WereChosen, count_of}
+use Rattle.cu_work.specs.Part.{IsInPart, IsPartOf, PartPut}
 use Rattle.cu_work.specs.Tried.{AreStarts, ChosenPut, HaveRun, IsStoppedBy, chosen_calls}
 use Rattle.cu_work.specs.declared.part.Part.{Part}
 use Rattle.cu_work.specs.declared.part.PartCounts.{PartCounts}
@@ -74,7 +74,7 @@ not_changed W shown = steps_wider (λ key value change. change) (omega arith) (o
 -- ---- the chosen tasks were run
 
 module _ (ranges : HaveRanges) (p : PlanView) (sound : Sound p) (q : Part) (part : IsPartOf p q) (retries : ℕ) (old mid new : Shown) (chosen : List Bool) (whole : length chosen ≡ count_of q)
-    (asked : HasAsked (search_of p q (retries + 1) old) (own_chunks p q (count_of q)) mid) (tasks : AreChosen p q (old, mid) chosen) where
+    (asked : HasAsked (search_of p q (retries + 1) old) (own_chunks p q (count_of q)) mid) (each : Steps NoChange (own_chunks p q (count_of q)) last_count old mid) (tasks : AreChosen p q (old, mid) chosen) where
   abbrev s : Search
   s = search_of p q (retries + 1) old
 
@@ -147,30 +147,29 @@ module _ (ranges : HaveRanges) (p : PlanView) (sound : Sound p) (q : Part) (part
               piece_stays (chunks_alone p) env mid at 0 ((retries + 1) * chosen_calls p q chosen (count_of q)) new (run_begun env at) (Chunk c) cell (held_piece env at c cell at.held at.told bytes is)
         ])
 
-    pub part_done : (n : PartCounts) → HaveRun p q chosen retries (count_of q) (mid, new) → AreStarts retries chosen (count_of q) (mid.faults, new.faults) n → IsPartDone s new n
-    part_done n run starts = record {
+    abbrev were_chosen : WereChosen s new
+    were_chosen = record {
       asked = mid;
-      first = first_step;
-      later = steps_ever (PartPut p q old) 0 ((retries + 1) * chosen_calls p q chosen (count_of q)) mid new run_step;
+      first = each;
       chosen = chosen;
       whole = whole;
       tasks = tasks;
+      later = step;
+    }
+
+    pub part_done : (n : PartCounts) → HaveRun p q chosen retries (count_of q) (mid, new) → AreStarts retries chosen (count_of q) (mid.faults, new.faults) n → IsPartDone s new n
+    part_done n run starts = record {
+      choice = were_chosen;
       starts =
           let same : retries ≡ (retries + 1) - 1 = omega arith in
-          let rose = starts.2 in
-          let earlier = first_step.count in
-          subst (λ (r : ℕ). AreStarts r chosen (count_of q) (old.faults, new.faults) n) same (starts.0, starts.1, omega (arith, rose, earlier));
+          subst (λ (r : ℕ). AreStarts r chosen (count_of q) (mid.faults, new.faults) n) same starts;
       held = part_holds run;
     }
 
     pub part_stopped : (f : PartFault) → IsStoppedBy p q chosen (retries + 1) (mid, new) f → IsPartFault s new f
-    part_stopped (Broken number) (i, is, named, rose) =
-        let earlier = first_step.count in (
-          subst (IsInPart q) (sym is) (in_part i named),
-          subst (λ (t : ℕ). LacksChunk p q.op t old) (sym is) (tasks.lacking i named),
-          omega (arith, rose, earlier),
-        )
-    part_stopped (BadChunk key got want) (bad, input) = (bad, λ env left. input env (left_mid env left))
+    part_stopped (Broken number) (i, is, named, rose) = (were_chosen, (i, is, named), rose)
+    part_stopped (BadChunk key got want) (i, named, (bad, input)) =
+        (were_chosen, q.from + i, (i, refl, named), (bad, λ env left. input env (left_mid env left)))
     part_stopped NoMemory lacks = inr lacks
     part_stopped (Failed key) why = absurd why
     part_stopped (NotReady task) why = absurd why

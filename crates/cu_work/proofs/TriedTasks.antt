@@ -31,7 +31,7 @@ use Rattle.cu_work.specs.Calls.{sum_below}
 use Rattle.cu_work.proofs.Searching.{Fills, held_stays}
 use Rattle.cu_work.specs.Asked.{AreChosen, IsChosenAt}
 use Rattle.cu_work.specs.Part.{HasInputs, IsPartOf, TaskPut}
-use Rattle.cu_work.specs.Tried.{AreStarts, ChosenPut, HaveRun, IsMemoryOf, IsTaskEnd, IsTried, IsStoppedBy, ends_tries, task_fault, chosen_below, chosen_calls}
+use Rattle.cu_work.specs.Tried.{AreStarts, ChosenPut, HaveRun, IsMemoryOf, IsTaskEnd, IsTried, IsStoppedBy, ends_tries, task_fault, task_id, chosen_below, chosen_calls}
 use Rattle.cu_work.specs.declared.part.Part.{Part}
 use Rattle.cu_work.specs.declared.part.PartCounts.{PartCounts}
 use Rattle.cu_work.specs.declared.trying.TaskMemory.{TaskMemory}
@@ -151,11 +151,11 @@ module _ (ranges : HaveRanges) (p : PlanView) (sound : Sound p) (k task : ℕ) (
           stored env (ready_now env now (left_on 0 (n * calls_of p k task) now step env left) (inputs_on 0 (n * calls_of p k task) now step has))
 
       pub try_end : (retries : ℕ) (new : Shown) (e : TaskFault) → Steps (TaskChange p k task now) 0 (calls_of p k task) now new → Rose n first.faults now.faults → (e ≡ fault.Store → n ≡ retries)
-          → IsTaskFault now new p k task e → IsTaskEnd p (retries + 1) (first, new) e
+          → IsTaskFault now new p k task e → IsTaskEnd p (task_id k task) (retries + 1) (first, new) e
       try_end retries new fault.Store tried rose last cause = let all = last refl in let r = cause in omega (arith, all, r, rose)
       try_end retries new fault.NoMemory tried rose last cause = cause
       try_end retries new (fault.BadChunk key got want) tried rose last (c, listed, is, size, other, holds) = (
-        (k, task, c, operation, number, listed, is, size, other, holds),
+        (c, listed, is, size, other, holds),
         λ env left. (
           c,
           of_input env new (left_on 0 ((n + 1) * calls_of p k task) new (try_more new tried) env left) c got listed (λ e. other (e ∙ sym size))
@@ -204,13 +204,13 @@ module _ (ranges : HaveRanges) (p : PlanView) (sound : Sound p) (k task : ℕ) (
   pub all_tries : n ≤ retries → Steps (TaskPut p k task first) 0 ((retries + 1) * calls_of p k task) first new
   all_tries few = tries_all (TaskPut p k task first) (calls_of p k task) n retries first new few once_more
 
-  pub tried_well : n ≤ retries → IsTried p retries (first, new) (Ok n)
+  pub tried_well : n ≤ retries → IsTried p (task_id k task) retries (first, new) (Ok n)
   tried_well few = (few, let before = so_far.rose in let more = tried.count in omega (arith, before, more))
 
   pub holds_well : ((env : Elements) → IsTaskReady p k task env now → HoldsCells p k task env new) → (env : Elements) → IsLeft (chunks_alone p) env first → HoldsTask (chunks_alone p) env k task new
   holds_well stored = try_holds ranges p sound k task operation number first has n now so_far.step new stored
 
-  pub tried_badly : (e : TaskFault) → (e ≡ fault.Store → n ≡ retries) → IsTaskFault now new p k task e → IsTried p retries (first, new) (Err e)
+  pub tried_badly : (e : TaskFault) → (e ≡ fault.Store → n ≡ retries) → IsTaskFault now new p k task e → IsTried p (task_id k task) retries (first, new) (Err e)
   tried_badly e last cause = try_end ranges p sound k task operation number first has n now so_far.step retries new e tried so_far.rose last cause
 
 -- ---- the chosen tasks, one after another
@@ -381,7 +381,7 @@ module _ (ranges : HaveRanges) (p : PlanView) (sound : Sound p) (q : Part) (part
 
   module _ (named : IsChosenAt chosen n) (new : Shown) (step : Steps (TaskPut p q.op (q.from + n) now) 0 ((retries + 1) * calls_of p q.op (q.from + n)) now new) where
     pub ran_so : (later : TaskMemory) → IsMemoryOf p q.op later → ((env : Elements) → IsLeft (chunks_alone p) env now → HoldsTask (chunks_alone p) env q.op (q.from + n) new) → (failed : ℕ)
-        → IsTried p retries (now, new) (Ok failed) → RunSoFar p q chosen retries (n + 1) (first, new) later (record { starts = c.starts + (failed + 1); failures = c.failures + failed })
+        → IsTried p (task_id q.op (q.from + n)) retries (now, new) (Ok failed) → RunSoFar p q chosen retries (n + 1) (first, new) later (record { starts = c.starts + (failed + 1); failures = c.failures + failed })
     ran_so later lent holds failed tried = record {
       lent = lent;
       run = run_more ranges p sound q part chosen retries first all_tasks n now so_far.run named new step holds;
@@ -395,7 +395,7 @@ module _ (ranges : HaveRanges) (p : PlanView) (sound : Sound p) (q : Part) (part
         let m : chosen_calls p q chosen (n + 1) * (retries + 1) ≤ chosen_calls p q chosen (q.to - q.from) * (retries + 1) = mul-le-mul_right (retries + 1) few in
         steps_wider (λ key value change. change) (omega arith) (omega (arith, m)) (last_step ranges p sound q part chosen retries first all_tasks n now so_far.run named new step)
 
-    pub stopped_by : (e : TaskFault) → IsTried p retries (now, new) (Err e) → IsStoppedBy p q chosen (retries + 1) (first, new) (task_fault (q.from + n) e)
+    pub stopped_by : (e : TaskFault) → IsTried p (task_id q.op (q.from + n)) retries (now, new) (Err e) → IsStoppedBy p q chosen (retries + 1) (first, new) (task_fault (q.from + n) e)
     stopped_by fault.Store rose = (n, refl, named, let more = so_far.run.step.count in omega (arith, rose, more))
-    stopped_by (fault.BadChunk key got want) (bad, input) = (bad, λ env left. input env (left_then ranges p sound q part chosen retries first all_tasks 0 ((retries + 1) * chosen_calls p q chosen n) now so_far.run.step env left))
+    stopped_by (fault.BadChunk key got want) (bad, input) = (n, named, (bad, λ env left. input env (left_then ranges p sound q part chosen retries first all_tasks 0 ((retries + 1) * chosen_calls p q chosen n) now so_far.run.step env left)))
     stopped_by fault.NoMemory lacks = lacks

@@ -89,13 +89,14 @@ abbrev pub has_key : List (List ℕ) → List ℕ → Bool
 has_key [] key = false
 has_key (k ∷ ks) key = has_key ks key || bytes_eq k key
 
--- the same, where the inputs are told by a test, and each of them is held
+-- The same, where at least one call was made for each of the chunks that tasks write, the inputs are
+-- told by a test, and each of them is held.
 pub record IsAsking (s : Search) (own : ℕ) (known : List ℕ → Bool) (now : Shown) : Type 0 where
   pub inputs : List (List ℕ)
   pub same : (key : List ℕ) → known key ≡ has_key inputs key
   pub differ : AllDiffer inputs
   pub sought : All (IsSoughtInput s) inputs
-  pub step : Steps NoChange 0 (s.tries * (own + length inputs)) s.start now
+  pub step : Steps NoChange own (s.tries * (own + length inputs)) s.start now
   pub held : All (IsHeldIn now.held) inputs
 
 -- asking goes on where the answer is yes, and has ended else

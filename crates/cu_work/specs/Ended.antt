@@ -5,9 +5,9 @@ use Rattle.cu_store.specs.Steps.{Shown, NoChange, Steps}
 use Rattle.cu_op.specs.Elements.{Elements}
 use Rattle.cu_run_law.specs.Left.{IsLeft}
 use Rattle.cu_run_law.specs.Pieces.{chunks_alone, HoldsTask}
-use Rattle.cu_work.specs.Part.{IsInPart, LacksChunk, PartPut}
+use Rattle.cu_work.specs.Part.{IsInPart, LacksChunk}
 use Rattle.cu_work.specs.Asked.{Search, AllDiffer, AreChosen, IsChosenAt, IsSoughtInput, IsUnstarted, own_chunks}
-use Rattle.cu_work.specs.Tried.{AreStarts, IsBadOf, chosen_calls}
+use Rattle.cu_work.specs.Tried.{AreStarts, ChosenPut, IsBadOf, chosen_calls, task_id}
 use Rattle.cu_work.specs.declared.part.Part.{Part}
 use Rattle.cu_work.specs.declared.part.PartCounts.{PartCounts}
 use Rattle.cu_work.specs.declared.part.PartFault.{PartFault}
@@ -16,25 +16,38 @@ use Rattle.cu_work.specs.declared.part.PartFault.TheVariants.{Broken, BadChunk, 
 abbrev pub count_of : Part → ℕ
 count_of q = q.to - q.from
 
--- The tasks of a part were chosen at a moment when all had been asked for and nothing was put yet. From
--- then on those that were chosen were run, each once and once more for each failure, and each task of the
--- part holds its chunks.
-pub record IsPartDone (s : Search) (now : Shown) (c : PartCounts) : Type 0 where
+-- The tasks of a part were chosen at a moment when all had been asked for, with a call at least for
+-- each chunk that they write, and nothing was put yet. From then on nothing but chunks of chosen ones
+-- was put, by at most so many calls for each chunk that these read or write.
+pub record WereChosen (s : Search) (now : Shown) : Type 0 where
   pub asked : Shown
-  pub first : Steps NoChange 0 last_count s.start asked
-  pub later : Steps (PartPut s.plan s.part s.start) 0 last_count asked now
+  pub first : Steps NoChange (own_chunks s.plan s.part (count_of s.part)) last_count s.start asked
   pub chosen : List Bool
   pub whole : length chosen ≡ count_of s.part
   pub tasks : AreChosen s.plan s.part (s.start, asked) chosen
-  pub starts : AreStarts (s.tries - 1) chosen (count_of s.part) (s.start.faults, now.faults) c
+  pub later : Steps (ChosenPut s.plan s.part chosen asked) 0
+      (s.tries * chosen_calls s.plan s.part chosen (count_of s.part)) asked now
+
+-- this task of the part was chosen: it lacked a chunk, and its made inputs were held at that moment
+abbrev pub WasChosen : Search → List Bool → ℕ → Type 0
+WasChosen s chosen task = (i : ℕ) × (task ≡ s.part.from + i) × IsChosenAt chosen i
+
+-- From that moment on those that were chosen were run, each once and once more for each failure, and
+-- each task of the part holds its chunks.
+pub record IsPartDone (s : Search) (now : Shown) (c : PartCounts) : Type 0 where
+  pub choice : WereChosen s now
+  pub starts : AreStarts (s.tries - 1) choice.chosen (count_of s.part)
+      (choice.asked.faults, now.faults) c
   pub held : (env : Elements) (task : ℕ) → IsLeft (chunks_alone s.plan) env s.start → IsInPart s.part task
       → HoldsTask (chunks_alone s.plan) env s.part.op task now
 
--- Why a part isn't done. A task whose tries all failed lacked a chunk at first. Where no task was
--- started nothing was put.
+-- Why a part isn't done. All tries of a chosen task failed, the faults counted from the moment of the
+-- choice on; or a chunk that a chosen task reads is bad. Where no task was started nothing was put.
 abbrev pub IsPartFault : Search → Shown → PartFault → Type 0
-IsPartFault s now (Broken task) = IsInPart s.part task × LacksChunk s.plan s.part.op task s.start × Rose s.tries s.start.faults now.faults
-IsPartFault s now (BadChunk key got want) = IsBadOf s.plan (s.start, now) key got want
+IsPartFault s now (Broken task) = (w : WereChosen s now) × WasChosen s w.chosen task
+    × Rose s.tries w.asked.faults now.faults
+IsPartFault s now (BadChunk key got want) = (w : WereChosen s now) × (task : ℕ)
+    × WasChosen s w.chosen task × IsBadOf s.plan (task_id s.part.op task) (s.start, now) key got want
 IsPartFault s now NoMemory = Steps NoChange 0 last_count s.start now ⊎ IsTrue now.lacks
 IsPartFault s now fault = IsUnstarted s now fault × Steps NoChange 0 last_count s.start now
 

@@ -194,6 +194,7 @@ pub(crate) fn choose_tasks<D: Depot>(
     ensures whole { IfOk result (λ chosen. length chosen.items ≡ count_of part.now) }
     ensures chosen { IfOk result (λ chosen. AreChosen plan.now part.now (D.shown depot.old, D.shown depot.new) chosen.items) }
     ensures asked { HasAsked (search_of plan.now part.now (retries + 1) (D.shown depot.old)) (own_chunks plan.now part.now (count_of part.now)) (D.shown depot.new) }
+    ensures each { IfOk result (λ chosen. Steps NoChange (own_chunks plan.now part.now (count_of part.now)) last_count (D.shown depot.old) (D.shown depot.new)) }
     ensures fault { IfErr result (IsUnstarted (search_of plan.now part.now (retries + 1) (D.shown depot.old)) (D.shown depot.new)) }
 {
     let mut known = HashSet::new(alloc);

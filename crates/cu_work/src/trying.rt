@@ -10,7 +10,7 @@ ghost use Rattle.cu_task.specs.Task.{TaskChange, HoldsCells, IsTaskReady, IsTask
 ghost use Rattle.cu_work.specs.Asked.{AreChosen};
 ghost use Rattle.cu_work.specs.Ended.{count_of};
 ghost use Rattle.cu_work.specs.Part.{HasInputs, IsPartOf, TaskPut};
-ghost use Rattle.cu_work.specs.Tried.{AreStarts, ChosenPut, HaveRun, IsMemoryOf, IsStoppedBy, IsTried, chosen_calls, ends_tries, task_fault};
+ghost use Rattle.cu_work.specs.Tried.{AreStarts, ChosenPut, HaveRun, IsMemoryOf, IsStoppedBy, IsTried, chosen_calls, ends_tries, task_fault, task_id};
 
 use crate::part::{Part, PartCounts, PartFault};
 use crate::rooms::{task_bytes, task_words};
@@ -100,7 +100,7 @@ fn run_tries<D: Depot>(
         (D.shown depot.old) (D.shown depot.new) }
     ensures done { (env : Elements) → IsLeft (chunks_alone plan.now) env (D.shown depot.old)
         → OnOk result (HoldsTask (chunks_alone plan.now) env op task (D.shown depot.new)) }
-    ensures tried { IsTried plan.now retries (D.shown depot.old, D.shown depot.new) result }
+    ensures tried { IsTried plan.now (task_id op task) retries (D.shown depot.old, D.shown depot.new) result }
 {
     range_law();
     // that the plan is sound is told by the plan alone

@@ -2,7 +2,7 @@ use Rattle.std.proofs.Common.{◌≡◌, ◌+◌, ◌-◌, ℕ, subst, sym, arit
 use Rattle.std.specs.HashSet.{contains_text}
 use Rattle.cu_work.specs.Asked.{own_chunks, search_of}
 use Rattle.cu_work.specs.Ended.{count_of}
-use Rattle.cu_work.proofs.AskedTasks.{ChosenSoFar, choice_stopped, chosen_at_first, chosen_next, empty_text, stopped_asked}
+use Rattle.cu_work.proofs.AskedTasks.{ChosenSoFar, all_asked, all_called, choice_stopped, chosen_at_first, chosen_next, empty_text, stopped_asked}
 use Rattle.cu_work.proofs.choosing.choose_tasks.Goals as goal
 
 pub loop-task-init : goal.loop-task-init
@@ -27,3 +27,13 @@ pub loop-task-preserved : goal.loop-task-preserved
 loop-task-preserved g c =
     let (on, choice, none) = (c.in-Ok-choose_task.ensures.asked (g.D.Depot.shown c.args.depot.now) (own_chunks c.args.plan.now c.args.part.now (c.loop-task.task - c.args.part.now.from)) c.loop-task.invariant.asking) in
     rw c.push_reserved.ensures.items (chosen_next c.args.plan.now c.args.part.now (c.args.retries + 1) (g.D.Depot.shown c.args.depot.now) c.loop-task.task (contains_text c.loop-task.known) (g.D.Depot.shown c.loop-task.depot) c.loop-task.chosen.items (let f = c.loop-task.auto.task in omega (arith, f)) c.loop-task.invariant (contains_text c.choose_task.new.known) (g.D.Depot.shown c.choose_task.new.depot) c.choose_task.ensures.step c.in-Ok-choose_task.starts on choice)
+
+pub returns-clause-asked : goal.returns-clause-asked
+returns-clause-asked g c =
+    all_asked c.args.plan.now c.args.part.now (c.args.retries + 1) (g.D.Depot.shown c.args.depot.now) c.loop-task.task (contains_text c.loop-task.known) (g.D.Depot.shown c.loop-task.depot) c.loop-task.chosen.items (let f = c.loop-task.auto.task in omega (arith, f)) c.loop-task.invariant (count_of c.args.part.now)
+    (let t = c.loop-task.auto.task-end in omega (arith, t))
+
+pub returns-clause-each : goal.returns-clause-each
+returns-clause-each g c =
+    all_called c.args.plan.now c.args.part.now (c.args.retries + 1) (g.D.Depot.shown c.args.depot.now) c.loop-task.task (contains_text c.loop-task.known) (g.D.Depot.shown c.loop-task.depot) c.loop-task.chosen.items (let f = c.loop-task.auto.task in omega (arith, f)) c.loop-task.invariant (count_of c.args.part.now)
+    (let f = c.loop-task.auto.task in let e = c.loop-task.auto.task-end in let t = c.loop-task-test.false in let o = c.requires.part.ordered in omega (arith, f, e, t, o))
