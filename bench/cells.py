@@ -24,7 +24,7 @@ sys.dont_write_bytecode = True
 import programs  # programs.py, in this folder
 
 NAME = "cells_bench"
-NEEDS = "cu_store cu_mem cu_dir cu_watch cu_threads anyhow".split()
+NEEDS = "cu_store cu_mem cu_dir test_depots anyhow".split()
 # At most so many times a plain copy, and so many times the depot's time.
 COPY_AIM, DEPOT_AIM = 3, 1.03
 
@@ -51,7 +51,7 @@ all_bytes (suc n) = All-cons (λ y. y < 256) 7 (replicate n 7) (omega arith) (al
 SOURCES["proofs/over_cells/Answers.antt"] = """\
 use denote.Exit.{no}
 use denote.Param.Send.{arg_send, param_send}
-use Rattle.cu_watch.proofs.Crossing.{watched_cells_sync, watched_pass_send}
+use Rattle.test_depots.proofs.WatchedCrossing.{watched_cells_sync, watched_pass_send}
 use Rattle.cells_bench.proofs.over_cells.Goals as goal
 
 pub timed-requires-send-D-Yard-Pass : goal.timed-requires-send-D-Yard-Pass
@@ -68,7 +68,7 @@ use Rattle.std.proofs.rt.LibcRuntime.TheSendSync as host
 use Rattle.std.specs.contracts.fs.File as File
 use Rattle.std.specs.contracts.fs.dir.Names as Names
 use Rattle.std.specs.contracts.rt.LibcRuntime as Host
-use Rattle.cu_threads.proofs.Crossing.{pass_send, yard_sync}
+use Rattle.test_depots.proofs.FolderCrossing.{pass_send, yard_sync}
 use Rattle.cells_bench.proofs.over_folder.Goals as goal
 
 pub timed-requires-send-D-Yard-Pass : goal.timed-requires-send-D-Yard-Pass
@@ -137,10 +137,10 @@ use anyhow::{Result, bail};
 use cu_dir::DirDepot;
 use cu_mem::{MemDepot, Script};
 use cu_store::{Depot, Got, Key};
-use cu_watch::Watched;
 use std::alloc::Global;
 use std::env;
 use std::time::{Clock, Instant};
+use test_depots::Watched;
 
 /// So many bytes.
 #[tactic(auto, using(crate::proofs::Lone::all_bytes))]

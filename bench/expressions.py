@@ -1,7 +1,7 @@
 #!/usr/bin/env python3
 """Measures the reader of expressions beside Python's json with a check of the same rules.
 
-usage: bench/expressions.py [--program FILE]     FILE is the built program of the tables of cases, crates/cu_cases/out/cu_cases
+usage: bench/expressions.py [--program FILE]     FILE is the built program of the tables of cases, crates/test_cases/out/test_cases
 
 The program reads one text many times and few times over; the difference is the time of a text. It copies the text each time,
 which is counted. Two texts: 256 nodes, and a small one with a megabyte of white space.
@@ -90,7 +90,7 @@ def program_time(program, folder, text, count):
 
 def main():
     parser = argparse.ArgumentParser()
-    parser.add_argument("--program", default=f"{TOP}/crates/cu_cases/out/cu_cases")
+    parser.add_argument("--program", default=f"{TOP}/crates/test_cases/out/test_cases")
     program = parser.parse_args().program
     with tempfile.TemporaryDirectory() as folder:
         for what, text, count in texts():

@@ -22,7 +22,7 @@ sys.dont_write_bytecode = True
 import programs  # programs.py, in this folder
 
 NAME = "table_bench"
-NEEDS = "cu_expr cu_lower cu_op cu_plan cu_read cu_claims cu_table anyhow".split()
+NEEDS = "cu_expr cu_lower cu_op cu_plan cu_read test_rows cu_table anyhow".split()
 WORKERS = (1, 4, 64)
 
 # The program: `table_bench FILE ALLOWED WORKERS ROUNDS` prints the tasks of the plan of an expression, and for each round
@@ -35,7 +35,6 @@ ghost use Rattle.std.specs.Prelude.{◌≡◌, ◌≤◌, ◌^◌, IfOk, length}
 ghost use Rattle.cu_table.specs.Numbers.{task_count};
 
 use anyhow::{Result, bail};
-use cu_claims::Turns;
 use cu_expr::type_of;
 use cu_lower::Options;
 use cu_op::Plan;
@@ -47,6 +46,7 @@ use std::fmt::Write;
 use std::fs::Files;
 use std::time::{Clock, Instant};
 use std::{env, fs};
+use test_rows::Turns;
 
 /// The plan of the text of an expression without inputs.
 fn plan_of(alloc: Global, text: &[u8], allowed: u64) -> Result<Plan> {

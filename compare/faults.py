@@ -38,7 +38,7 @@ sys.path.append(os.path.join(compare.HERE, "..", "bench"))
 import programs  # programs.py, in bench, which also builds the small programs that are measured
 
 NAME = "faults_bench"
-NEEDS = "cu_store cu_mem cu_rows cu_top serde_json anyhow".split()
+NEEDS = "cu_store cu_mem test_rows cu_top serde_json anyhow".split()
 FEWEST_TASKS, MOST_TASKS, MOST_BYTES = 2, 80, 40000
 ROUNDS, CASES = 12, 10  # of a case, and of a table
 LONGEST = 600
@@ -63,7 +63,6 @@ use crate::gate::SlowGate;
 use crate::shelf::Shelf;
 use anyhow::{Result, bail};
 use cu_mem::{MemSink, MemSource};
-use cu_rows::{NamedTexts, key_of, list_of, number_of, pair_of, text_of};
 use cu_store::Key;
 use cu_top::{status_line, top};
 use serde_json::Value;
@@ -72,6 +71,7 @@ use std::fmt::Write;
 use std::sync::Wait;
 use std::thread::Threads;
 use std::{env, fs};
+use test_rows::{NamedTexts, key_of, list_of, number_of, pair_of, text_of};
 
 /// The most bytes that a call prints.
 const ROOM: u64 = 10_000;

@@ -1,5 +1,5 @@
 #!/usr/bin/env python3
-"""Writes along.json in crates/cu_cases/data: the table of cases of `run` over prefix sums and groups by labels, along one axis.
+"""Writes along.json in crates/test_cases/data: the table of cases of `run` over prefix sums and groups by labels, along one axis.
 
 usage: tools/along_cases.py
 

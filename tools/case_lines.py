@@ -1,12 +1,12 @@
 #!/usr/bin/env python3
-"""Prints what cu_cases must print, computed from its tables alone: a line for each case with the count of its calls.
+"""Prints what test_cases must print, computed from its tables alone: a line for each case with the count of its calls.
 
-usage: tools/case_lines.py > crates/cu_cases/stdout
+usage: tools/case_lines.py > crates/test_cases/stdout
 """
 import json
 import os
 
-FOLDER = f"{os.path.dirname(os.path.dirname(os.path.realpath(__file__)))}/crates/cu_cases"
+FOLDER = f"{os.path.dirname(os.path.dirname(os.path.realpath(__file__)))}/crates/test_cases"
 
 
 def loop_calls(said, loops):

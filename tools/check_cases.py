@@ -1,5 +1,5 @@
 #!/usr/bin/env python3
-"""Writes the table of cases of `check`: check.json in crates/cu_cases/data.
+"""Writes the table of cases of `check`: check.json in crates/test_cases/data.
 
 usage: tools/check_cases.py      with NumPy 1.24
 
@@ -305,7 +305,7 @@ def main():
             case["rows"][0]["holds"][1][1] = {"hex": "07 00"}
     lines = ["{", '"kind": "calls",', f'"texts": {json.dumps(said["texts"])},', f'"shared": {json.dumps(said["shared"])},', '"cases": [']
     lines += [",\n".join(json.dumps(case) for case in said["cases"]), "]", "}"]
-    with open(f"{TOP}/crates/cu_cases/data/check.json", "w") as out:
+    with open(f"{TOP}/crates/test_cases/data/check.json", "w") as out:
         out.write("\n".join(lines) + "\n")
     print(len(said["cases"]), "cases")
 

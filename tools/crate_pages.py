@@ -57,7 +57,7 @@ def rows():
     for line in text_of("docs/LAYERS.md").split("\n"):
         if line.startswith("## "):
             heading = line[3:]
-        row = re.match(r"\| `(cu_\w+)` \| (.*?) \| (.*?) \|$", line)
+        row = re.match(r"\| `((?:cu|test)_\w+)` \| (.*?) \| (.*?) \|$", line)
         if row:
             found.setdefault(row[1], (heading, row[2].split()))  # the table of times names them again
     return found
@@ -80,7 +80,7 @@ def wrong():
         if not os.path.exists(f"{TOP}/{page}"):
             yield f"{page} isn't there (tools/crate_pages.py --new {name})"
         else:
-            yield from (f"{page}: no part {part}" for part in PARTS if f"\n## {part}\n" not in text_of(page))
+            yield from (f"{page}: no part {part}" for part in PARTS if not re.search(f"\n###? {part}\n", text_of(page)))
     yield from (f"docs/LAYERS.md: {name} is no crate of crates.txt" for name in table if name not in crates)
 
 

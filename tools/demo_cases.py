@@ -1,7 +1,7 @@
 #!/usr/bin/env python3
 """Writes the tables of cases of the demonstration, with values that this script works out from the rule of each element alone.
 
-usage: tools/demo_cases.py DATA     (as crates/cu_cases/data)
+usage: tools/demo_cases.py DATA     (as crates/test_cases/data)
 """
 import json
 import pathlib

@@ -1,6 +1,6 @@
 #!/usr/bin/env python3
 """Writes the tables of cases of `run` over elementwise expressions: elementwise.json, lengths.json and refusals.json in
-crates/cu_cases/data.
+crates/test_cases/data.
 
 usage: tools/elementwise_cases.py
 
@@ -906,7 +906,7 @@ def write(file, cases):
     for case in cases:
         for row in case.get("rows", [case]):
             check(case["name"], row)
-    with open(f"{TOP}/crates/cu_cases/data/{file}", "w", encoding="ascii") as out:
+    with open(f"{TOP}/crates/test_cases/data/{file}", "w", encoding="ascii") as out:
         out.write('{\n"kind": "calls",\n"cases": ' + joined(map(case_text, cases), "") + "\n}\n")
 
 

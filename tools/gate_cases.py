@@ -1,5 +1,5 @@
 #!/usr/bin/env python3
-"""Writes gates.json and gates_folder.json in crates/cu_cases/data: runs by several workers with a gate that holds tasks until others have
+"""Writes gates.json and gates_folder.json in crates/test_cases/data: runs by several workers with a gate that holds tasks until others have
 come. So they show that tasks run at once, that a task starts before the operation before it is done, and second copies.
 
 usage: tools/gate_cases.py

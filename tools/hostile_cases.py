@@ -1,5 +1,5 @@
 #!/usr/bin/env python3
-"""Writes hostile.json and json_edges.json in crates/cu_cases/data: the call of the source, of the sink and of the store in memory of each
+"""Writes hostile.json and json_edges.json in crates/test_cases/data: the call of the source, of the sink and of the store in memory of each
 number fails, under each command; and edges of JSON.
 
 usage: tools/hostile_cases.py
@@ -114,7 +114,7 @@ def hostile():
     cases = [{"name": "a source that fails at each read", "rows": source_rows(told)}, {"name": "a sink that fails at each write", "rows": sink_rows(told)},
              dropped(told["drop"], job), {"name": "a run by four, each call before its tasks failing", "rows": run},
              {"name": "a demonstration by four, each call before its tasks failing", "rows": demo}]
-    with open(f"{TOP}/crates/cu_cases/data/hostile.json", "w", encoding="ascii") as out:
+    with open(f"{TOP}/crates/test_cases/data/hostile.json", "w", encoding="ascii") as out:
         out.write(f'{{\n"kind": "calls",\n"texts": {members(job.texts)},\n"cases": {tables.joined(map(tables.case_text, cases), "")}\n}}\n')
 
 
@@ -186,7 +186,7 @@ def json_edges():
             if answer_of(text) != answer:
                 print(f"{name}: {text[:90]!r}: by hand {answer}, by the rules {answer_of(text)}", file=sys.stderr)
         cases.append({"name": f"edges of JSON: {name}", "rows": [list(row) for row in rows]})
-    with open(f"{TOP}/crates/cu_cases/data/json_edges.json", "w", encoding="ascii") as out:
+    with open(f"{TOP}/crates/test_cases/data/json_edges.json", "w", encoding="ascii") as out:
         lines = [f'{{"name": {json.dumps(case["name"])},\n "rows": {tables.joined(map(json.dumps, case["rows"]), "  ")}}}' for case in cases]
         out.write(f'{{\n"kind": "expressions",\n"cases": {tables.joined(lines, "")}\n}}\n')
 

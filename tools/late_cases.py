@@ -1,5 +1,5 @@
 #!/usr/bin/env python3
-"""Writes late_puts.json in crates/cu_cases/data: runs over a folder of which one put fails and lands after 0 to 6 further calls, and runs
+"""Writes late_puts.json in crates/test_cases/data: runs over a folder of which one put fails and lands after 0 to 6 further calls, and runs
 that go on from there.
 
 usage: tools/late_cases.py            the table of the gate: each put of the addition, and some of the rest

@@ -1,7 +1,7 @@
 #!/usr/bin/python3
 """Prints a table of cases of scalar functions, with values from NumPy.
 
-usage: tools/numpy_cases.py > crates/cu_cases/data/scalars_numpy.json
+usage: tools/numpy_cases.py > crates/test_cases/data/scalars_numpy.json
 
 Each function at each type that it accepts, at both ends of the type's range and around zero. NumPy gives each value but those
 that are this project's own rule: a zero divisor gives 0, and a shift that is negative or not below the width gives 0 to the left

@@ -1,5 +1,5 @@
 #!/usr/bin/env python3
-"""Writes parts.json in crates/cu_cases/data: plans that are begun and then run part by part over a folder, as an engine does.
+"""Writes parts.json in crates/test_cases/data: plans that are begun and then run part by part over a folder, as an engine does.
 
 usage: tools/part_cases.py            the table of the gate
        tools/part_cases.py FOLDER     all cases: each stop of each part, and each order of the parts

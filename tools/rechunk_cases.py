@@ -1,5 +1,5 @@
 #!/usr/bin/env python3
-"""Writes rechunk.json and plan.json in crates/cu_cases/data: the tables of cases of `run` where arrays are copied to other chunks, and
+"""Writes rechunk.json and plan.json in crates/test_cases/data: the tables of cases of `run` where arrays are copied to other chunks, and
 of `plan`.
 
 usage: tools/rechunk_cases.py

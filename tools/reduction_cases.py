@@ -1,5 +1,5 @@
 #!/usr/bin/env python3
-"""Writes reductions.json in crates/cu_cases/data: the table of cases of `run` over reductions, searches for places and products of
+"""Writes reductions.json in crates/test_cases/data: the table of cases of `run` over reductions, searches for places and products of
 matrices.
 
 usage: tools/reduction_cases.py

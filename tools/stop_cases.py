@@ -1,5 +1,5 @@
 #!/usr/bin/env python3
-"""Writes resume_stops.json and failing_calls.json in crates/cu_cases/data: runs over a folder that are stopped after each call, runs
+"""Writes resume_stops.json and failing_calls.json in crates/test_cases/data: runs over a folder that are stopped after each call, runs
 that go on from there and are stopped after each call too, and each call that fails once, by one worker and by four.
 
 usage: tools/stop_cases.py            the tables of the gate: all pairs of stops of the addition, and some of the rest
@@ -356,7 +356,7 @@ def text_of_case(case, dumped):
     return f'{{"name": {dumped(case["name"])},\n{shared} "steps": {tables.joined(map(dumped, steps), "  ")}}}'
 
 
-def write(file, jobs, cases, folder=f"{TOP}/crates/cu_cases/data"):
+def write(file, jobs, cases, folder=f"{TOP}/crates/test_cases/data"):
     texts = {name: value for job in jobs for name, value in job.texts.items()}
     lines = [text_of_case(case, rules.json.dumps) for case in cases]
     with open(f"{folder}/{file}", "w", encoding="ascii") as out:

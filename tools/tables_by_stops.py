@@ -1,7 +1,7 @@
 #!/usr/bin/env python3
 """Runs all stops, failing calls and late puts over a folder, of which the gate runs some: see `tools/stop_cases.py` and `tools/late_cases.py`.
 
-usage: tools/tables_by_stops.py PROGRAM [PART..]     PROGRAM is the built cu_cases; a case is run if its name has one of these parts
+usage: tools/tables_by_stops.py PROGRAM [PART..]     PROGRAM is the built test_cases; a case is run if its name has one of these parts
 
 Each case is run by itself in a folder of its own. What isn't as the table says is printed, and the script ends with 1.
 """

@@ -1,7 +1,7 @@
 #!/usr/bin/env python3
 """Runs the tables of cases once more with several workers: every run is given `--workers N`, and what comes must be the same.
 
-usage: tools/tables_by_workers.py PROGRAM [N..]     PROGRAM is the built cu_cases; N is 2 and 4 if it isn't given
+usage: tools/tables_by_workers.py PROGRAM [N..]     PROGRAM is the built test_cases; N is 2 and 4 if it isn't given
 
 Left out of a row are the count and the order of its calls and what is tried call by call, since these are those of one worker. A row
 whose store fails by a script, or whose run ends amid its tasks, is left out whole, and with a step the steps that go on from it. The
@@ -14,7 +14,7 @@ import sys
 import tempfile
 
 TOP = os.path.dirname(os.path.dirname(os.path.realpath(__file__)))
-CRATE = f"{TOP}/crates/cu_cases"
+CRATE = f"{TOP}/crates/test_cases"
 OF_ONE = ("calls", "loops", "ends", "once", "late", "sinks", "fronts")
 SCRIPTED = ("faults", "stop_after", "fail_from")
 # How a run ends amid its tasks, of which another worker may have stored one more.

@@ -1,5 +1,5 @@
 #!/usr/bin/env python3
-"""Writes turns.json in crates/cu_cases/data: the table of cases in which workers take turns at a task table.
+"""Writes turns.json in crates/test_cases/data: the table of cases in which workers take turns at a task table.
 
 usage: tools/turn_cases.py
 
@@ -439,7 +439,7 @@ def written():
 
 def main():
     rows = ",\n".join(json.dumps(case.whole()) for case in written())
-    with open(f"{TOP}/crates/cu_cases/data/turns.json", "w", encoding="ascii") as out:
+    with open(f"{TOP}/crates/test_cases/data/turns.json", "w", encoding="ascii") as out:
         out.write('{\n"kind": "turns",\n"cases": [\n' + rows + "\n]}\n")
 
 

@@ -4,7 +4,7 @@
 Shapes come from NumPy, which computes each expression on arrays of zeros. Types and chunk shapes come from the rules of this
 project, written here anew and apart from the program. Faults are written by hand: [code, node, place].
 
-usage: tools/typing_cases.py > crates/cu_cases/data/typing.json     with NumPy 1.24
+usage: tools/typing_cases.py > crates/test_cases/data/typing.json     with NumPy 1.24
 """
 import itertools
 import json

@@ -1,5 +1,5 @@
 #!/usr/bin/env python3
-"""Writes the tables of cases of commands over arrays of Zarr version 2: version2.json and version2_folder.json in crates/cu_cases/data.
+"""Writes the tables of cases of commands over arrays of Zarr version 2: version2.json and version2_folder.json in crates/test_cases/data.
 
 usage: tools/version2_cases.py
 
@@ -145,7 +145,7 @@ def table():
 
 def write(file, kind, cases):
     lines = ",\n".join(json.dumps(case) for case in cases)
-    with open(f"{TOP}/crates/cu_cases/data/{file}", "w", encoding="utf-8") as out:
+    with open(f"{TOP}/crates/test_cases/data/{file}", "w", encoding="utf-8") as out:
         out.write('{\n"kind": "' + kind + '",\n"cases": [\n' + lines + "\n]\n}\n")
 
 

@@ -1,5 +1,5 @@
 #!/usr/bin/env python3
-"""Writes views.json in crates/cu_cases/data: the table of cases of `run` over views and made arrays.
+"""Writes views.json in crates/test_cases/data: the table of cases of `run` over views and made arrays.
 
 usage: tools/view_cases.py
 

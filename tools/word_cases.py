@@ -1,8 +1,8 @@
 #!/usr/bin/env python3
 """Writes the tables of cases of the command line, with answers that this script works out from the table of options alone.
 
-usage: tools/word_cases.py > crates/cu_cases/data/words.json
-       tools/word_cases.py resume > crates/cu_cases/data/resume_words.json
+usage: tools/word_cases.py > crates/test_cases/data/words.json
+       tools/word_cases.py resume > crates/test_cases/data/resume_words.json
 
 The words of `resume` and of `part` are tried over a folder: a depot in memory tells its contents, and a table can't say that a plan left them.
 Words that are accepted are shown by the next thing that the command finds wrong: an empty text, or an array that isn't there.

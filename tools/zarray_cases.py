@@ -1,5 +1,5 @@
 #!/usr/bin/env python3
-"""Writes the table of cases of reading a `.zarray`: zarray.json in crates/cu_cases/data.
+"""Writes the table of cases of reading a `.zarray`: zarray.json in crates/test_cases/data.
 
 usage: tools/zarray_cases.py
 
@@ -109,7 +109,7 @@ def refusals():
 def main():
     cases = [*accepted(), *refusals()]
     lines = ",\n".join(json.dumps(case, separators=(",", ":"), ensure_ascii=True) for case in cases)
-    with open(f"{TOP}/crates/cu_cases/data/zarray.json", "w", encoding="utf-8") as file:
+    with open(f"{TOP}/crates/test_cases/data/zarray.json", "w", encoding="utf-8") as file:
         file.write('{"kind":"zarray","cases":[\n' + lines + "\n]}\n")
 
 

@@ -10,8 +10,8 @@ from typing import Any
 
 from .support import TOP, TYPES, Case, cengmoat, np, xp
 
-TABLE = os.path.join(TOP, "crates", "cu_cases", "data", "metadata.json")
-TABLE_V2 = os.path.join(TOP, "crates", "cu_cases", "data", "zarray.json")
+TABLE = os.path.join(TOP, "crates", "test_cases", "data", "metadata.json")
+TABLE_V2 = os.path.join(TOP, "crates", "test_cases", "data", "zarray.json")
 
 
 class Saving(Case):

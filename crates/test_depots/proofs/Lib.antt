@@ -1,0 +1,4 @@
+pub mod FolderCrossing
+pub mod OwnLate
+pub mod Pairs
+pub mod WatchedCrossing
