@@ -1,12 +1,10 @@
 -- What the board keeps, after a claim and after a report.
 use Rattle.std.proofs.Common.{◌≡◌, ℕ, ◌≤◌, min, Bool, List, [], Some, Result, Err, refl, sym, ap, ◌∙◌, subst, ⊎_elim, arith}
 use Rattle.std.specs.Prelude.{IsTrue}
-use Rattle.cu_store.specs.Faults.{last_count}
 use Rattle.cu_store.specs.Yard.{Known, IsOfOneYard, IsJoined, uncounted, Served, YardLaws}
 use Rattle.cu_store.specs.declared.faults.TaskFault.{TaskFault}
 use Rattle.cu_history.specs.declared.entry.Entry.{Entry}
 use Rattle.cu_history.specs.declared.entry.EventKind.TheVariants as kind
-use Rattle.cu_history.specs.History.{count_kind, is_failed}
 use Rattle.cu_op.specs.PlanView.{PlanView}
 use Rattle.cu_table.specs.declared.claim.Claim.{Claim}
 use Rattle.cu_table.specs.declared.claim.Claim.TheVariants as claim
@@ -14,8 +12,8 @@ use Rattle.cu_table.specs.Machine.{Machine, opening}
 use Rattle.cu_table.specs.Step.{Settings, Run}
 use Rattle.cu_table.specs.Table.{TableView, IsClaim, end_of, report_kind, is_late}
 use Rattle.cu_board.specs.Board.{SeesTask, SeesDone, IsCauseOf, halted_fault, IsLegal, IsOfFirstYard, IsBoardState, Reports, OnRun, OnHalted, MayReport, TakesIn}
-use Rattle.cu_board.proofs.Tables.{no_fault, MakesDone, DoneLaw, claim_settings, claim_failed, claim_ended, claim_done, report_failed, report_fault, report_done}
-use Rattle.cu_board.proofs.Passes.{or_right, cause_same, takes_yard, takes_seen, takes_task, takes_faults, may_cause}
+use Rattle.cu_board.proofs.Tables.{no_fault, MakesDone, DoneLaw, claim_settings, claim_ended, claim_done, report_fault, report_done}
+use Rattle.cu_board.proofs.Passes.{or_right, cause_same, takes_yard, takes_seen, takes_task, takes_calls, may_cause}
 
 -- what a pass has seen of the tasks that are done, after a claim
 pub sees_claimed : (n : ℕ) (t : TableView) (r : Claim) (u : TableView) (k : Known) → IsClaim t n r u → DoneLaw t u → SeesDone t.settings.plan t.state k → SeesDone u.settings.plan u.state k
@@ -69,7 +67,7 @@ module _ {Y P : Type 0} (knows : P → Known) (owns : Y → P → Type 0) where
         legal = legal;
         yard = yard;
         seen = subst (SeesDone u.settings.plan u.state) (sym same) (sees_claimed n t r u (knows p) claims law state.seen);
-        faults = let c = claim_failed n t r u claims in let f = state.faults in let s = ap (λ (k : Known). k.faults) same in omega (arith, c, f, s);
+        calls = let f = state.calls in let s = ap (λ (k : Known). k.calls) same in omega (arith, f, s);
         cause = λ f is. subst (λ (x : Settings × Known). IsCauseOf x.0.plan x.1 f) (λ i. (sym settings i, sym same i))
             (state.cause f (ap halted_fault (sym (claim_ended n t r u claims)) ∙ is));
       }
@@ -95,8 +93,7 @@ module _ {Y P : Type 0} (knows : P → Known) (owns : Y → P → Type 0) where
         yard = yard;
         seen = subst (λ (s : Settings). SeesDone s.plan u.state (knows q)) (sym g.settings)
             (report_sees b n op task t p r u q caller state.seen (law (end_of (report_kind b r) n op task) g) may takes);
-        faults = subst (λ (c : ℕ). min c last_count ≤ (knows q).faults) (sym (report_failed b n op task r t u g))
-            (takes_faults b t.settings.plan op task r caller (knows p) (knows q) (count_kind is_failed t.history) may takes state.faults);
+        calls = let f = state.calls in let s = takes_calls r caller (knows p) (knows q) takes in omega (arith, f, s);
         cause = λ f is. subst (λ (s : Settings). IsCauseOf s.plan (knows q) f) (sym g.settings) (cause_same t.settings.plan (knows p) (knows q) f of (⊎_elim
             (λ (was : halted_fault t.state.ended ≡ Some f). state.cause f was)
             (λ (now : r ≡ Err f). cause_same t.settings.plan caller (knows p) f (turned (knows p) caller one)
@@ -115,6 +112,6 @@ module _ {Y P : Type 0} (knows : P → Known) (owns : Y → P → Type 0) where
         legal = legal;
         yard = λ y o. o;
         seen = seen;
-        faults = subst (λ (h : List Entry). min (count_kind is_failed h) last_count ≤ (knows p).faults) (sym empty) (omega arith);
+        calls = omega arith;
         cause = λ f is. absurd (no_fault f (sym (ap (λ (m : Machine). halted_fault m.ended) begun) ∙ is));
       }

@@ -5,7 +5,7 @@ use Rattle.cu_store.specs.declared.faults.TaskFault.TheVariants as fault
 use Rattle.cu_history.specs.declared.entry.Entry.{Entry}
 use Rattle.cu_history.specs.declared.entry.EventKind.{EventKind}
 use Rattle.cu_history.specs.declared.entry.EventKind.TheVariants as kind
-use Rattle.cu_history.specs.History.{count_kind, has_halt, is_done, is_failed}
+use Rattle.cu_history.specs.History.{has_halt, is_done}
 use Rattle.cu_table.specs.declared.claim.Claim.{Claim}
 use Rattle.cu_table.specs.declared.claim.Claim.TheVariants as claim
 use Rattle.cu_table.specs.declared.state.Ending.{Ending}
@@ -18,10 +18,6 @@ use Rattle.cu_board.specs.Board.{halted_fault, IsGrownBy, Reports}
 
 pub no_truth : false ≡ true → ⊥
 no_truth e = true≢false (sym e)
-
-pub count-snoc : (f : EventKind → Bool) (xs : List Entry) (e : Entry) → count_kind f (xs ++ e ∷ []) ≡ count_kind f xs + cond (f e.kind) 1 0
-count-snoc f [] e = omega arith
-count-snoc f (x ∷ xs) e = let i = count-snoc f xs e in omega (arith, i)
 
 -- ---- a machine that has ended stays as it ended
 
@@ -89,14 +85,6 @@ claim_settings n t claim.Finished u c = (ap (λ (x : TableView). x.settings) c.0
 claim_settings n t (claim.Broken op task) u c = (ap (λ (x : TableView). x.settings) c.0, ap (λ (x : TableView). x.done) c.0)
 claim_settings n t (claim.Halted f) u c = (ap (λ (x : TableView). x.settings) c.0, ap (λ (x : TableView). x.done) c.0)
 
-pub claim_failed : (n : ℕ) (t : TableView) (r : Claim) (u : TableView) → IsClaim t n r u → count_kind is_failed u.history ≡ count_kind is_failed t.history
-claim_failed n t (claim.Run op task copy) u (g, count) =
-    ap (count_kind is_failed) g.history ∙ count-snoc is_failed t.history (start_event t.settings.plan n op task) ∙ omega arith
-claim_failed n t claim.Idle u c = ap (λ (x : TableView). count_kind is_failed x.history) c.0
-claim_failed n t claim.Finished u c = ap (λ (x : TableView). count_kind is_failed x.history) c.0
-claim_failed n t (claim.Broken op task) u c = ap (λ (x : TableView). count_kind is_failed x.history) c.0
-claim_failed n t (claim.Halted f) u c = ap (λ (x : TableView). count_kind is_failed x.history) c.0
-
 pub claim_ended : (n : ℕ) (t : TableView) (r : Claim) (u : TableView) → IsClaim t n r u → u.state.ended ≡ t.state.ended
 claim_ended n t (claim.Run op task copy) u (g, count) = ap (λ (m : Machine). m.ended) g.step.1
 claim_ended n t claim.Idle u c = ap (λ (x : TableView). x.state.ended) c.0
@@ -115,14 +103,6 @@ claim_done n t (claim.Broken o k) u c law op task is d = subst (λ (x : TableVie
 claim_done n t (claim.Halted f) u c law op task is d = subst (λ (x : TableView). IsDone t.settings.plan x.state op task) c.0 d
 
 -- ---- what a report adds
-
--- the count of failures
-abbrev pub failed_by : Bool → Result (Unit {0}) TaskFault → ℕ
-failed_by b r = cond (is_failed (report_kind b r)) 1 0
-
-pub report_failed : (b : Bool) (n op task : ℕ) (r : Result (Unit {0}) TaskFault) (t u : TableView) → Goes t u (end_of (report_kind b r) n op task)
-    → count_kind is_failed u.history ≡ count_kind is_failed t.history + failed_by b r
-report_failed b n op task r t u g = ap (count_kind is_failed) g.history ∙ count-snoc is_failed t.history (end_of (report_kind b r) n op task)
 
 pub no_fault : (f : TaskFault) → ◌≡◌ {A = Option TaskFault} None (Some f) → ⊥
 no_fault f e = true≢false (sym (ap has e))

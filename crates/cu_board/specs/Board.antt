@@ -1,12 +1,11 @@
 -- What the board keeps, and what its calls say. This project's own rules.
-use Rattle.std.specs.Prelude.{◌≡◌, ◌≢◌, ℕ, ◌<◌, ◌≤◌, min, true, false, IsTrue, List, ◌++◌, length, Contains, Option, Some, None, Result, Ok, Err}
-use Rattle.cu_store.specs.Faults.{last_count}
+use Rattle.std.specs.Prelude.{◌≡◌, ◌≢◌, ℕ, ◌≤◌, true, false, IsTrue, List, ◌++◌, length, Contains, Option, Some, None, Result, Ok, Err}
 use Rattle.cu_store.specs.Held.{Contents}
 use Rattle.cu_store.specs.Yard.{Known, IsJoined, uncounted}
 use Rattle.cu_store.specs.declared.faults.TaskFault.{TaskFault}
 use Rattle.cu_store.specs.declared.faults.TaskFault.TheVariants as fault
 use Rattle.cu_history.specs.declared.entry.Entry.{Entry}
-use Rattle.cu_history.specs.History.{own, count_kind, has_halt, is_failed}
+use Rattle.cu_history.specs.History.{own, has_halt}
 use Rattle.cu_op.specs.declared.cells.Cell.{Cell}
 use Rattle.cu_op.specs.Arrays.{chunk_room}
 use Rattle.cu_op.specs.PlanView.{PlanView}
@@ -88,15 +87,15 @@ module _ {Y P : Type 0} (knows : P → Known) (owns : Y → P → Type 0) where
   abbrev pub IsOfFirstYard : P → P → Type 0
   IsOfFirstYard first p = (y : Y) → owns y first → owns y p
 
-  -- The table is for what the board was made for, and its history is legal. The pass is of the first one's yard, has seen the
-  -- cells of each task that is done, and has counted at least the Failed entries, as far as the count goes. The fault that the
-  -- machine was halted with has its cause.
+  -- The table is for what the board was made for, and its history is legal. The pass is of the first one's yard, and has seen
+  -- the cells of each task that is done. It has counted no more calls than the first: what workers call for they count
+  -- themselves. The fault that the machine was halted with has its cause.
   pub record IsBoardState (made : TableView) (first : P) (t : TableView) (p : P) : Type 0 where
     pub same : IsSameJob made t
     pub legal : IsLegal t
     pub yard : IsOfFirstYard first p
     pub seen : SeesDone t.settings.plan t.state (knows p)
-    pub faults : min (count_kind is_failed t.history) last_count ≤ (knows p).faults
+    pub calls : (knows p).calls ≤ (knows first).calls
     pub cause : (f : TaskFault) → halted_fault t.state.ended ≡ Some f → IsCauseOf t.settings.plan (knows p) f
 
 -- ---- turns of a seat
@@ -175,16 +174,10 @@ pub record IsReportTurn (made : TableView) (old : SeatView) (op task : ℕ) (end
 -- what it wants of the caller's
 abbrev pub MayReport : PlanView → ℕ → ℕ → Result (Unit {0}) TaskFault → Known → Type 0
 MayReport p op task (Ok u) k = SeesTask p op task k
-MayReport p op task (Err fault.Store) k = 0 < k.faults
+MayReport p op task (Err fault.Store) k = Unit {0}
 MayReport p op task (Err f) k = IsCauseOf p k f
 
--- what the board's is then: of Ok it has seen what the caller's has, of Store it has its count too
+-- what the board's is then: of Ok it has seen what the caller's has
 abbrev pub TakesIn : Result (Unit {0}) TaskFault → Known → Known → Known → Type 0
 TakesIn (Ok u) caller old new = IsJoined old (uncounted caller) new
-TakesIn (Err fault.Store) caller old new = IsJoined old caller new
 TakesIn (Err f) caller old new = new ≡ old
-
--- what is left of the caller's count
-abbrev pub LeavesCount : Result (Unit {0}) TaskFault → Known → Known → Type 0
-LeavesCount (Err fault.Store) old new = new ≡ uncounted old
-LeavesCount ended old new = new ≡ old

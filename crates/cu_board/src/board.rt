@@ -1,10 +1,10 @@
 //! The board: a lock over a table and a pass.
-ghost use Rattle.std.specs.Prelude.{◌≡◌, ℕ, ◌<◌, min, [], true, false, Contains, IfOk, IfErr};
+ghost use Rattle.std.specs.Prelude.{◌≡◌, ℕ, ◌<◌, ◌≤◌, min, [], true, false, Contains, IfOk, IfErr};
 ghost use Rattle.cu_store.specs.Faults.{last_count};
 ghost use Rattle.cu_store.specs.Yard.{IsLater};
 ghost use Rattle.cu_lock.specs.Rule.{IsPrefix, Each, AllBelow, IsKnownFront};
 ghost use Rattle.cu_lock.specs.Views.{first_root, split_root, split_off, root_joined, joined_numbers};
-ghost use Rattle.cu_board.specs.Board.{IsBoardState, SeesDone, IsClaimTurn, IsReportTurn, IsResting, IsRunning, UnlessRun, MayReport, LeavesCount, halted_fault};
+ghost use Rattle.cu_board.specs.Board.{IsBoardState, SeesDone, IsClaimTurn, IsReportTurn, IsResting, IsRunning, UnlessRun, MayReport, halted_fault};
 ghost use Rattle.cu_board.specs.Views.{BoardView, IsSeatOf};
 
 use crate::seat::BoardSeat;
@@ -91,6 +91,7 @@ impl<Y: Yard> Board<Y> {
         ensures own { Y.owns yard.now pass.new }
         ensures later { IsLater (Y.knows pass.old) (Y.knows pass.new) }
         ensures count { min (Y.knows pass.new).faults last_count ≡ min (Y.knows pass.old).faults last_count }
+        ensures calls { (Y.knows pass.new).calls ≤ (Y.knows pass.old).calls }
         ensures unless_run { UnlessRun result (Y.knows pass.new ≡ Y.knows pass.old) }
     {
         let badge = mem::replace(&mut seat.badge, Badge::blank());
@@ -103,8 +104,8 @@ impl<Y: Yard> Board<Y> {
     }
 
     /// Tells how the task ended that the seat's own entries leave running. Ok wants the task's cells among those that the pass
-    /// has seen, and Store a count of faults above 0, which goes to the board's pass. BadChunk wants a chunk that a task
-    /// reads, and an input's where contents are told; NoMemory wants a yard that lacks.
+    /// has seen, and tells them the board's pass. BadChunk wants a chunk that a task reads, and an input's where contents are
+    /// told; NoMemory wants a yard that lacks. The caller's pass stays as it is, with its counts.
     pub fn report<H: Wait>(
         &self,
         rt: &H,
@@ -122,7 +123,7 @@ impl<Y: Yard> Board<Y> {
         ensures board { seat.new.board ≡ seat.old.board }
         ensures reported { IsReportTurn self.now.table seat.old.view op task ended seat.new.view }
         ensures own { Y.owns yard.now pass.new }
-        ensures count { LeavesCount ended (Y.knows pass.old) (Y.knows pass.new) }
+        ensures same { Y.knows pass.new ≡ Y.knows pass.old }
     {
         let badge = mem::replace(&mut seat.badge, Badge::blank());
         let (mut state, held) = self.turn.take::<Brand, H>(rt, badge);

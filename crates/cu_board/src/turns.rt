@@ -1,9 +1,9 @@
 //! What a seat does while it has the turn.
-ghost use Rattle.std.specs.Prelude.{◌≡◌, ◌↔◌, IsTrue, min};
+ghost use Rattle.std.specs.Prelude.{◌≡◌, ◌≤◌, ◌↔◌, IsTrue, min};
 ghost use Rattle.cu_store.specs.Faults.{last_count};
 ghost use Rattle.cu_store.specs.Yard.{IsLater};
 ghost use Rattle.cu_table.specs.Table.{TableView, IsClaim, IsIdle};
-ghost use Rattle.cu_board.specs.Board.{IsLegal, IsBoardState, IsResting, IsRunning, IsGrownBy, Reports, TellsClaim, UnlessRun, MayReport, TakesIn, LeavesCount};
+ghost use Rattle.cu_board.specs.Board.{IsLegal, IsBoardState, IsResting, IsRunning, IsGrownBy, Reports, TellsClaim, UnlessRun, MayReport, TakesIn};
 
 use crate::state::BoardState;
 use cu_store::{TaskFault, Yard};
@@ -24,6 +24,7 @@ pub(crate) fn claim_in<Y: Yard>(
     ensures own { Y.owns yard.now pass.new }
     ensures later { IsLater (Y.knows pass.old) (Y.knows pass.new) }
     ensures count { min (Y.knows pass.new).faults last_count ≡ min (Y.knows pass.old).faults last_count }
+    ensures calls { (Y.knows pass.new).calls ≤ (Y.knows pass.old).calls }
     ensures kept { (made : TableView) (first : _) → Y.owns yard.now first
         → IsBoardState Y.knows Y.owns made first state.old.table state.old.pass
         → IsBoardState Y.knows Y.owns made first state.new.table state.new.pass
@@ -41,24 +42,19 @@ pub(crate) fn claim_in<Y: Yard>(
     claim
 }
 
-// What the caller's pass has seen, or its count, goes to the pass of the board.
+// What the caller's pass has seen goes to the pass of the board. Its counts stay its own.
 fn pass_on<Y: Yard>(yard: &Y, kept: &mut Y::Pass, pass: &mut Y::Pass, ended: &Result<(), TaskFault>)
     requires { Y.owns yard.now kept.old × Y.owns yard.now pass.old }
     ensures own { Y.owns yard.now kept.new × Y.owns yard.now pass.new }
     ensures takes_in { TakesIn ended.now (Y.knows pass.old) (Y.knows kept.old) (Y.knows kept.new) }
-    ensures count { LeavesCount ended.now (Y.knows pass.old) (Y.knows pass.new) }
+    ensures same { Y.knows pass.new ≡ Y.knows pass.old }
 {
     match ended {
         Ok(_) => {
             let copy = yard.split(pass);
             yard.join(kept, copy);
         }
-        Err(fault) => {
-            if let TaskFault::Store = fault {
-                let moved = yard.hand(pass);
-                yard.join(kept, moved);
-            }
-        }
+        Err(_) => {}
     }
 }
 
@@ -87,7 +83,7 @@ pub(crate) fn report_in<Y: Yard>(
     ensures reported { Reports state.old.table number op task ended state.new.table }
     ensures grown { IsGrownBy number state.old.table state.new.table }
     ensures own { Y.owns yard.now pass.new }
-    ensures count { LeavesCount ended (Y.knows pass.old) (Y.knows pass.new) }
+    ensures same { Y.knows pass.new ≡ Y.knows pass.old }
     ensures kept { (made : TableView) (first : _) → Y.owns yard.now first
         → IsBoardState Y.knows Y.owns made first state.old.table state.old.pass
         → IsBoardState Y.knows Y.owns made first state.new.table state.new.pass }

@@ -1,5 +1,8 @@
 -- How often a single worker has tried each task, and how many calls it has made, from turn to turn.
-use Rattle.std.proofs.Common.{◌≡◌, ℕ, ◌+◌, ◌*◌, ◌≤◌, false, [], ◌∷◌, ◌++◌, Result, Ok, Err, refl, ap, ◌∙◌, subst, arith}
+use Rattle.std.proofs.Common.{◌≡◌, ℕ, ◌+◌, ◌*◌, ◌<◌, ◌≤◌, All, false, [], ◌∷◌, ◌++◌, Result, Ok, Err, refl, ap, sym, ◌∙◌, subst, arith}
+use Rattle.std.proofs.lemmas.List.Elements.{All-nil, All-push}
+use Rattle.cu_history.specs.declared.entry.Entry.{Entry}
+use Rattle.cu_work.specs.Starts.{IsOfWorkers}
 use Rattle.cu_store.specs.Yard.{Served, Known}
 use Rattle.cu_store.specs.declared.faults.TaskFault.{TaskFault}
 use Rattle.cu_store.specs.declared.faults.TaskFault.TheVariants as fault
@@ -13,11 +16,13 @@ use Rattle.cu_table.proofs.Copies.{weight_own, weight_other}
 use Rattle.cu_table.proofs.Keeping.{Kept, replay_kept}
 use Rattle.cu_work.specs.Alone.{HasRun, Tried}
 use Rattle.cu_work.specs.Calls.{calls_of_tasks}
+use Rattle.cu_work.proofs.Started.{alone_starts}
 use Rattle.cu_work.proofs.Tries.{IsTriedFew, spent, spent_more, spent_few, turn_counts, turn_few}
 
--- each task was started few times, and the calls are at most those of these starts
+-- each task was started few times, by worker 0, and the calls are at most those of these starts
 pub record HasTried (first now : TableView) (old new : Known) : Type 0 where
   pub few : (op task : ℕ) → IsTask first.settings.plan op task → IsTriedFew first.settings now.state now.history op task
+  pub numbers : All (λ e. e.worker < 1) now.history
   pub calls : new.calls ≤ old.calls + spent first.settings.plan (calls_of first.settings.plan) (λ op task. count_of_task is_start op task now.history)
 
 pub tried_first : (t : TableView) (k : Known) → t.history ≡ [] → HasTried t t k k
@@ -25,6 +30,7 @@ tried_first t k fresh = record {
   few = λ op task is.
       let none = ap (count_of_task is_start op task) fresh in
       record { few = omega (arith, none); undone = λ going undone. omega (arith, none) };
+  numbers = subst (All (λ (e : Entry). e.worker < 1)) (sym fresh) (All-nil (λ (e : Entry). e.worker < 1));
   calls = omega arith;
 }
 
@@ -57,8 +63,19 @@ module _ (yard : Served) (first t u v : TableView) (old : Known) (ks : Known × 
       record {
         few = λ l other that.
             turn_few g t.state u.state v.state op task kept_before has.resting start_step t.history v.history counts r ended l other that (was.few l other that);
+        numbers = subst (All (λ (e : Entry). e.worker < 1)) (sym report.history)
+            (All-push (λ (e : Entry). e.worker < 1) u.history (end_of (report_kind false r) 0 op task)
+            (subst (All (λ (e : Entry). e.worker < 1)) (sym goes.history)
+            (All-push (λ (e : Entry). e.worker < 1) t.history (start_event t.settings.plan 0 op task) was.numbers (omega arith))) (omega arith));
         calls = omega (arith, more, before, turn);
       }
+
+-- all entries
+pub tried_workers : (first now last : TableView) (old new : Known) → last ≡ now → HasTried first now old new → IsOfWorkers 1 first.settings last.history
+tried_workers first now last old new same tried = subst (λ (t : TableView). IsOfWorkers 1 first.settings t.history) (sym same) (record {
+  numbers = tried.numbers;
+  starts = λ op task is. alone_starts first.settings.backups first.settings.retries (count_of_task is_start op task now.history) (tried.few op task is).few;
+})
 
 -- all calls
 pub tried_calls : (first now : TableView) (old new : Known) (p : PlanView) → first.settings.plan ≡ p → HasTried first now old new

@@ -13,6 +13,8 @@ use Rattle.cu_history.specs.declared.entry.Entry.{Entry}
 use Rattle.cu_history.specs.declared.entry.EventKind.{EventKind}
 use Rattle.cu_history.specs.declared.entry.EventKind.TheVariants.{Start, Done, Failed, Halt}
 use Rattle.cu_history.specs.History.{is_start, is_failed, count_kind}
+use Rattle.cu_work.specs.Starts.{started_calls}
+use Rattle.cu_work.proofs.Started.{started_push}
 use Rattle.cu_op.specs.Arrays.{maker_at}
 use Rattle.cu_op.specs.PlanView.{PlanView}
 use Rattle.cu_op.specs.Schedule.{op_of, key_of, task_at}
@@ -40,9 +42,6 @@ use Rattle.cu_work.proofs.Worlds.{as_input, done_from}
 
 -- ---- counts
 
-abbrev weight : Bool → ℕ
-weight b = if b then 1 else 0
-
 pub count_push : (f : EventKind → Bool) (es : List Entry) (e : Entry) → count_kind f (es ++ e ∷ []) ≡ count_kind f es + (if f e.kind then 1 else 0)
 count_push f [] e = omega arith
 count_push f (d ∷ es) e = let h = count_push f es e in omega (arith, h)
@@ -64,8 +63,8 @@ later_then first second = record {
   seen = λ key made seen. second.seen key made (first.seen key made seen);
 }
 
-more_calls : (a b c n m x : ℕ) → b ≤ a + n * m → c ≤ b + x → x ≤ m → c ≤ a + (n + 1) * m
-more_calls a b c n m x first second small = omega (arith, first, second, small)
+more_calls : (a b c s x t : ℕ) → b ≤ a + s → c ≤ b + x → t ≡ s + x + 0 → c ≤ a + t
+more_calls a b c s x t first second all = omega (arith, first, second, all)
 
 -- ---- a claim where no copy runs
 
@@ -203,11 +202,13 @@ module _ (yard : Served) (first t u v : TableView) (old : Known) (ks : Known × 
     ended_step : (kind : EventKind) → Goes u v (end_of kind 0 op task) → StepOf first.settings u.state kind (ended_entry kind op task) v.state
     ended_step kind report = subst (λ (s : Settings). StepOf s u.state kind (ended_entry kind op task) v.state) between report.step
 
-    starts : (kind : EventKind) → Goes u v (end_of kind 0 op task) → is_start kind ≡ false → count_kind is_start v.history ≡ count_kind is_start t.history + 1
+    starts : (kind : EventKind) → Goes u v (end_of kind 0 op task) → is_start kind ≡ false
+        → started_calls first.settings.plan v.history ≡ started_calls first.settings.plan t.history + calls_of first.settings.plan op task + 0
     starts kind report end =
-        let all = two_counts is_start t.history u.history v.history (start_event t.settings.plan 0 op task) (end_of kind 0 op task) goes.history report.history in
-        let none = ap (λ (b : Bool). weight b) end in
-        omega (arith, all, none)
+        let p = first.settings.plan in
+        ap (started_calls p) report.history ∙ started_push p u.history (end_of kind 0 op task)
+        ∙ ap (λ (b : Bool). started_calls p u.history + (if b then calls_of p op task else 0)) end
+        ∙ ap (λ (n : ℕ). n + 0) (ap (started_calls p) goes.history ∙ started_push p t.history (start_event t.settings.plan 0 op task))
 
     failures : (kind : EventKind) → Goes u v (end_of kind 0 op task)
         → count_kind is_failed v.history ≡ count_kind is_failed t.history + 0 + (if is_failed kind then 1 else 0)
@@ -227,9 +228,8 @@ module _ (yard : Served) (first t u v : TableView) (old : Known) (ks : Known × 
       later = later_then has.later tried.later;
       rose = subst (λ (n : ℕ). Rose n old.faults ks.1.faults) (sym (failures kind report))
           (rose_more (count_kind is_failed t.history) (if is_failed kind then 1 else 0) old.faults ks.0.faults ks.1.faults has.rose risen);
-      calls = λ m most. subst (λ (n : ℕ). ks.1.calls ≤ old.calls + n * m) (sym (starts kind report end))
-          (more_calls old.calls ks.0.calls ks.1.calls (count_kind is_start t.history) m (calls_of first.settings.plan op task) (has.calls m most) tried.step.calls.1
-          (most op task turn_task.operation turn_task.number));
+      calls = more_calls old.calls ks.0.calls ks.1.calls (started_calls first.settings.plan t.history) (calls_of first.settings.plan op task)
+          (started_calls first.settings.plan v.history) has.calls tried.step.calls.1 (starts kind report end);
       cause = cause;
     }
 
@@ -278,7 +278,7 @@ ran_first yard t k legal fresh seen =
       seen = seen;
       later = record { yard = record { promise = refl; entries = refl; lacks = refl }; seen = λ key made is. is };
       rose = let none = ap (count_kind is_failed) fresh in omega (arith, none);
-      calls = λ m most. omega arith;
+      calls = omega arith;
       cause = λ f e. absurd (none_halted f (sym (ap (λ (m : Machine). m.ended) opened) ∙ e));
     }
 

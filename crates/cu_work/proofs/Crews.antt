@@ -1,5 +1,5 @@
 -- A crew, worker by worker.
-use Rattle.std.proofs.Common.{◌≡◌, ◌||◌, Bool, true, false, ℕ, zero, suc, ◌+◌, ◌<◌, List, [], ◌∷◌, ◌++◌, map, length, length-append, refl, sym, ap, ◌∙◌, subst, arith}
+use Rattle.std.proofs.Common.{◌≡◌, ◌||◌, Bool, true, false, ℕ, zero, suc, ◌+◌, ◌<◌, ◌≤◌, List, [], ◌∷◌, ◌++◌, map, length, length-append, refl, sym, ap, ◌∙◌, subst, arith}
 use Rattle.std.proofs.lemmas.List.{length-map}
 use Rattle.std.proofs.lemmas.List.Sums.{sum_by-cons}
 use Rattle.std.specs.Prelude.{Contains, slice_index_or, min, sum_by}
@@ -9,7 +9,8 @@ use Rattle.cu_store.specs.Yard.{Known, IsJoined}
 use Rattle.atomic_table.specs.Seated.{TableId}
 use Rattle.cu_lock.specs.Rule.{Each}
 use Rattle.cu_lock.specs.declared.view.KnownFront.{KnownFront}
-use Rattle.cu_work.specs.Workers.{AreWorkersOf, AreNumbered, IsWorkerOf, TookIn, front_of}
+use Rattle.cu_op.specs.PlanView.{PlanView}
+use Rattle.cu_work.specs.Workers.{AreWorkersOf, AreNumbered, HasCounted, HaveCounted, IsWorkerOf, TookIn, front_of}
 use Rattle.cu_work.specs.declared.worker.Worker.{Worker}
 
 module _ {X : Type 0} where
@@ -72,6 +73,10 @@ module _ {Y P : Type 0} (owns : Y → P → Type 0) (yard : Y) (board : TableId)
 pub numbered_snoc : {Y P : Type 0} (ws : List (Worker Y P)) (w : Worker Y P) → AreNumbered ws → w.number ≡ length ws → AreNumbered (ws ++ w ∷ [])
 numbered_snoc {Y} {P} ws w numbers one = snoc_at (λ i (v : Worker Y P). v.number ≡ i) ws w numbers one
 
+pub counted_snoc : {Y P : Type 0} (knows : P → Known) (p : PlanView) (ws : List (Worker Y P)) (w : Worker Y P) → HaveCounted knows p ws → HasCounted p w.seat.view (knows w.pass)
+    → HaveCounted knows p (ws ++ w ∷ [])
+counted_snoc {Y} {P} knows p ws w counted one = snoc_at (λ i (v : Worker Y P). HasCounted p v.seat.view (knows v.pass)) ws w counted one
+
 -- ---- the passes of a crew
 
 or_none : (b : Bool) → b ≡ (b || false)
@@ -90,10 +95,14 @@ took_none k = record {
   seen = λ key. or_none (k.seen key);
   faults = omega arith;
   calls = omega arith;
+  few = omega arith;
 }
 
 counts_more : (o s m f n l : ℕ) → n ≡ min (m + f) l → min m l ≡ min (o + s) l → min n l ≡ min (o + (f + s)) l
 counts_more o s m f n l a b = omega (arith, a, b)
+
+few_more : (o s m f n l : ℕ) → n ≡ min (m + f) l → m ≤ o + s → n ≤ o + (f + s)
+few_more o s m f n l a b = omega (arith, a, b)
 
 -- one pass more
 pub took_one : (ks : List Known) (old mid k new : Known) → TookIn ks old mid → IsJoined mid k new → TookIn (k ∷ ks) old new
@@ -104,4 +113,6 @@ took_one ks old mid k new took j = record {
       (counts_more old.faults (sum_by (λ (x : Known). x.faults) ks) mid.faults k.faults new.faults last_count j.faults took.faults);
   calls = subst (λ (t : ℕ). min new.calls last_count ≡ min (old.calls + t) last_count) (sym (sum_by-cons (λ (x : Known). x.calls) k ks))
       (counts_more old.calls (sum_by (λ (x : Known). x.calls) ks) mid.calls k.calls new.calls last_count j.calls took.calls);
+  few = subst (λ (t : ℕ). new.calls ≤ old.calls + t) (sym (sum_by-cons (λ (x : Known). x.calls) k ks))
+      (few_more old.calls (sum_by (λ (x : Known). x.calls) ks) mid.calls k.calls new.calls last_count j.calls took.few);
 }

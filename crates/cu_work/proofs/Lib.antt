@@ -1,6 +1,9 @@
 pub mod Lent
 pub mod Asking
 pub mod Worlds
+pub mod Started
+pub mod WorkerSums
+pub mod OwnCounts
 pub mod AloneTurns
 pub mod Sums
 pub mod Pushed
@@ -15,6 +18,7 @@ pub mod Resuming
 pub mod PlanChunks
 pub mod Promised
 pub mod Worked
+pub mod SharedCalls
 pub mod SharedRuns
 pub mod Counted
 pub mod Running

@@ -30,7 +30,7 @@ use Rattle.cu_lock.specs.declared.view.SeatView.{SeatView}
 use Rattle.cu_lock.proofs.Fronts.{own-append}
 use Rattle.atomic_table.specs.Seated.{TableId}
 use Rattle.cu_board.specs.Views.{SeatAt}
-use Rattle.cu_board.specs.Board.{SeesDone, IsBadEntry, MayReport, LeavesCount, IsCauseOf, IsResting, IsRunning, IsTurnOf, IsTableLeft, IsClaimTurn, IsReportTurn}
+use Rattle.cu_board.specs.Board.{SeesDone, IsBadEntry, MayReport, IsCauseOf, IsResting, IsRunning, IsTurnOf, IsTableLeft, IsClaimTurn, IsReportTurn}
 use Rattle.cu_task.specs.Serving.{HasSeenInputs, HasSeenOutputs, IsBadOfInput}
 use Rattle.cu_task.specs.Task.{IsTaskFault}
 use Rattle.cu_work.specs.Alone.{IsDecided, Tried, halt_outcome}
@@ -42,14 +42,14 @@ left-snoc : (now : Option (ℕ × ℕ)) (xs : List Entry) (e : Entry) → left_r
 left-snoc now [] e = refl
 left-snoc now (x ∷ xs) e = left-snoc (cond (is_start x.kind) (Some (x.op, x.task)) None) xs e
 
-own-snoc : (n : ℕ) (xs : List Entry) (e : Entry) → e.worker ≡ n → own n (xs ++ e ∷ []) ≡ own n xs ++ e ∷ []
+pub own-snoc : (n : ℕ) (xs : List Entry) (e : Entry) → e.worker ≡ n → own n (xs ++ e ∷ []) ≡ own n xs ++ e ∷ []
 own-snoc n xs e is = own-append n xs (e ∷ []) ∙ ap (λ (b : Bool). own n xs ++ cond b (e ∷ []) []) (eq-eqb e.worker n is)
 
 -- what the last entry of a worker leaves running
 left_by : (n : ℕ) (xs : List Entry) (e : Entry) → e.worker ≡ n → left_running None (own n (xs ++ e ∷ [])) ≡ cond (is_start e.kind) (Some (e.op, e.task)) None
 left_by n xs e is = ap (left_running None) (own-snoc n xs e is) ∙ left-snoc None (own n xs) e
 
-front_after : (made : TableView) (v : SeatView) (u : TableView) (w : SeatView) → IsTableLeft made v u w → w.front ≡ u.history
+pub front_after : (made : TableView) (v : SeatView) (u : TableView) (w : SeatView) → IsTableLeft made v u w → w.front ≡ u.history
 front_after made v u w left = ap (λ (x : SeatView). x.front) left.knows
 
 -- ---- after a claim
@@ -169,7 +169,7 @@ halted_after made v w f o k c rests halts is =
 
 -- ---- after a report
 
-kind_ends : (b : Bool) (r : Result (Unit {0}) TaskFault) → is_start (report_kind b r) ≡ false
+pub kind_ends : (b : Bool) (r : Result (Unit {0}) TaskFault) → is_start (report_kind b r) ≡ false
 kind_ends true r = refl
 kind_ends false (Ok u) = refl
 kind_ends false (Err fault.Store) = refl
@@ -219,7 +219,7 @@ bad_told p None None e key got want told is bad = absurd (true≢false (sym (ap 
 may_by : (p : PlanView) (op task : ℕ) (r : Result (Unit {0}) TaskFault) (old new : Known) (yard : Served) → IsTask p op task → FitsYard yard new → OnOk r (HasSeenOutputs p op task new.seen)
     → IfErr r (IsTaskFault (shown_by old) (shown_by new) p op task) → IfErr r (IsBadOfInput p yard.promise yard.entries) → MayReport p op task r new
 may_by p op task (Ok u) old new yard is fits seen cause bad = seen
-may_by p op task (Err fault.Store) old new yard is fits seen cause bad = omega (arith, cause)
+may_by p op task (Err fault.Store) old new yard is fits seen cause bad = tt
 may_by p op task (Err (fault.BadChunk key got want)) old new yard is fits seen cause bad =
     let (c, listed, key_is, want_is, other, long) = cause in (
       record { op = op; task = task; is = is; cell = c; read = listed; key_is = key_is; want_is = want_is; other = other },
@@ -244,12 +244,8 @@ module _ (specs : List Spec) where
     seen = λ key made seen. second.seen key made (first.seen key made seen);
   }
 
+  pub later_again : (a b c : Known) → IsLaterIn specs a b → c ≡ b → IsLaterIn specs a c
+  later_again a b c later same = subst (IsLaterIn specs a) (sym same) later
+
   pub later_any : (a b : Known) → IsLater a b → IsLaterIn specs a b
   later_any a b later = record { yard = later.yard; seen = λ key made seen. later.seen key seen }
-
-  -- a report leaves what was seen
-  pub later_reported : (r : Result (Unit {0}) TaskFault) (a b : Known) → LeavesCount r a b → IsLaterIn specs a b
-  later_reported (Ok u) a b is = subst (IsLaterIn specs a) (sym is) (later_same a)
-  later_reported (Err fault.Store) a b is = subst (IsLaterIn specs a) (sym is) (record { yard = record { promise = refl; entries = refl; lacks = refl }; seen = λ key made seen. seen })
-  later_reported (Err (fault.BadChunk key got want)) a b is = subst (IsLaterIn specs a) (sym is) (later_same a)
-  later_reported (Err fault.NoMemory) a b is = subst (IsLaterIn specs a) (sym is) (later_same a)

@@ -2,7 +2,7 @@
 use Rattle.std.proofs.Common.{◌≡◌, inl, inr, ℕ, ◌+◌, ◌<◌, ◌≤◌, ◌||◌, min, Bool, true, false, IsTrue, cond, List, [], ◌∷◌, ◌++◌, length, take, drop, append-nil, Option, Some, None, refl, ap, sym, ◌∙◌, subst, arith, eq-eqb, ne_eqb}
 use Rattle.std.proofs.lemmas.Bool.{cases_lt}
 use Rattle.std.proofs.lemmas.List.{take_all, drop_all}
-use Rattle.std.specs.Prelude.{slice_index_or}
+use Rattle.std.specs.Prelude.{slice_index_or, sum_by}
 use Rattle.atomic_table.specs.Seated.{TableId}
 use Rattle.cu_store.specs.Faults.{last_count}
 use Rattle.cu_store.specs.Held.{Contents}
@@ -25,6 +25,7 @@ use Rattle.cu_board.specs.Board.{IsBadEntry, IsCauseOf, IsBoardState, IsLegal, I
 use Rattle.cu_board.specs.Views.{SeatAt}
 use Rattle.cu_board.proofs.Passes.{cause_same}
 use Rattle.cu_work.specs.Alone.{HasRun, HasSeenDone, IsDecided, IsHaltOf}
+use Rattle.cu_work.specs.Starts.{started_calls}
 use Rattle.cu_work.specs.Workers.{AreWorkersOf, KnowsEnd, TookIn, HasWorked, front_of}
 use Rattle.cu_work.specs.declared.outcome.Outcome.{Outcome}
 use Rattle.cu_work.specs.declared.worker.Worker.{Worker}
@@ -52,6 +53,7 @@ alone_worked yard first now old new fits ran = record {
   seen = ran.seen;
   later = ran.later;
   rose = ran.rose;
+  calls = ran.calls;
   cause = λ f ended. cause_of first.settings.plan yard new fits f (ran.cause f ended);
 }
 
@@ -129,13 +131,17 @@ or_right : (a b : Bool) → IsTrue b → IsTrue (a || b)
 or_right true b t = refl
 or_right false b t = t
 
-rose_joined : (n o s m k w l : ℕ) → w ≡ min (m + k) l → min n l ≤ k → min m l ≡ min (o + s) l → min (o + n) l ≤ w
+rose_joined : (n o s m k w l : ℕ) → w ≡ min (m + k) l → min n l ≤ s → min m l ≡ min (o + s) l → min (o + n) l ≤ w
 rose_joined n o s m k w l a b c = omega (arith, a, b, c)
+
+calls_joined : (o s m k w l n f : ℕ) → w ≡ min (m + k) l → m ≤ o + s → k ≤ f → f ≡ 0 → s ≤ n → w ≤ o + n
+calls_joined o s m k w l n f a b c d e = omega (arith, a, b, c, d, e)
 
 pub board_worked : {Y P : Type 0} (knows : P → Known) (owns : Y → P → Type 0) (made : TableView) (first : P) (t : TableView) (p : P) → IsBoardState knows owns made first t p
     → (yard : Served) (ks : List Known) (old mid new : Known) → TookIn ks old mid → IsJoined mid (knows p) new → IsOfOneYard (knows p) new → t.state.copies ≡ []
+    → (knows first).calls ≡ 0 → sum_by (λ k. k.calls) ks ≤ started_calls made.settings.plan t.history → min (count_kind is_failed t.history) last_count ≤ sum_by (λ k. k.faults) ks
     → HasWorked yard made t old new
-board_worked knows owns made first t p state yard ks old mid new took joined one resting = record {
+board_worked knows owns made first t p state yard ks old mid new took joined one resting fresh calls failures = record {
   settings = state.same.0;
   done = state.same.1;
   legal = state.legal;
@@ -146,7 +152,9 @@ board_worked knows owns made first t p state yard ks old mid new took joined one
     yard = record { promise = joined.yard.promise ∙ took.yard.promise; entries = joined.yard.entries ∙ took.yard.entries; lacks = joined.yard.lacks ∙ took.yard.lacks };
     seen = λ key made_key seen. subst IsTrue (sym (joined.seen key)) (or_left (mid.seen key) ((knows p).seen key) (subst IsTrue (sym (took.seen key)) (or_left (old.seen key) _ seen)));
   };
-  rose = rose_joined (count_kind is_failed t.history) old.faults _ mid.faults (knows p).faults new.faults last_count joined.faults state.faults took.faults;
+  rose = rose_joined (count_kind is_failed t.history) old.faults (sum_by (λ k. k.faults) ks) mid.faults (knows p).faults new.faults last_count joined.faults failures took.faults;
+  calls = calls_joined old.calls (sum_by (λ k. k.calls) ks) mid.calls (knows p).calls new.calls last_count (started_calls made.settings.plan t.history) (knows first).calls
+      joined.calls took.few state.calls fresh calls;
   cause = λ f ended. subst (λ (s : Settings). IsCauseOf s.plan new f) state.same.0 (cause_same t.settings.plan (knows p) new f one (state.cause f (ap halted_fault ended)));
 }
 

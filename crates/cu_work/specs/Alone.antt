@@ -1,11 +1,11 @@
 -- What a run of a plan's tasks over a yard, by a table, has come to. This project's own rules.
-use Rattle.std.specs.Prelude.{◌≡◌, ℕ, ◌+◌, ◌*◌, ◌≤◌, Bool, IsTrue, List, [], Some, None, Result, OnOk, IfErr}
+use Rattle.std.specs.Prelude.{◌≡◌, ℕ, ◌+◌, ◌≤◌, Bool, IsTrue, List, [], Some, None, Result, OnOk, IfErr}
 use Rattle.cu_store.specs.Faults.{Rose}
 use Rattle.cu_store.specs.Yard.{Served, Known, shown_by}
 use Rattle.cu_store.specs.Steps.{Shown, Steps}
 use Rattle.cu_store.specs.declared.faults.TaskFault.{TaskFault}
 use Rattle.cu_store.specs.declared.faults.TaskFault.TheVariants as fault
-use Rattle.cu_history.specs.History.{is_start, is_failed, count_kind}
+use Rattle.cu_history.specs.History.{is_failed, count_kind}
 use Rattle.cu_op.specs.PlanView.{PlanView}
 use Rattle.cu_region.specs.Passes.{IsLaterIn}
 use Rattle.cu_task.specs.Serving.{HasSeenOutputs, IsBadOfInput}
@@ -15,7 +15,8 @@ use Rattle.cu_table.specs.Numbers.{IsTask}
 use Rattle.cu_table.specs.Machine.{Machine, IsDone, AllDone}
 use Rattle.cu_table.specs.Step.{Replays}
 use Rattle.cu_table.specs.Table.{TableView}
-use Rattle.cu_work.specs.Drive.{IsBadChunk, IsTaskMost}
+use Rattle.cu_work.specs.Drive.{IsBadChunk}
+use Rattle.cu_work.specs.Starts.{started_calls}
 use Rattle.cu_work.specs.declared.outcome.Outcome.{Outcome}
 use Rattle.cu_work.specs.declared.outcome.Outcome.TheVariants as outcome
 
@@ -51,7 +52,7 @@ IsDecided p m (outcome.BadChunk key got want) = m.ended ≡ Some (Halted (fault.
 IsDecided p m outcome.Lacked = m.ended ≡ Some (Halted fault.NoMemory)
 
 -- From one moment to another tasks were run: of the table only the history and the state changed, and no copy runs; the pass has seen each chunk of
--- each task that is done, and its count of faults has risen by each failure at least.
+-- each task that is done. Its count of faults has risen by each failure at least, and that of calls by those of each start at most.
 pub record HasRun (yard : Served) (first now : TableView) (old new : Known) : Type 0 where
   pub settings : now.settings ≡ first.settings
   pub done : now.done ≡ first.done
@@ -60,5 +61,5 @@ pub record HasRun (yard : Served) (first now : TableView) (old new : Known) : Ty
   pub seen : HasSeenDone first.settings.plan now.state new.seen
   pub later : IsLaterIn yard.specs old new
   pub rose : Rose (count_kind is_failed now.history) old.faults new.faults
-  pub calls : (m : ℕ) → IsTaskMost first.settings.plan m → new.calls ≤ old.calls + count_kind is_start now.history * m
+  pub calls : new.calls ≤ old.calls + started_calls first.settings.plan now.history
   pub cause : (f : TaskFault) → now.state.ended ≡ Some (Halted f) → IsHaltOf first.settings.plan yard (shown_by new) f

@@ -4,6 +4,7 @@ pub mod Order
 pub mod Run
 pub mod Alone
 pub mod Calls
+pub mod Starts
 pub mod World
 pub mod Ends
 pub mod Search

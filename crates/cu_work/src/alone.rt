@@ -6,6 +6,7 @@ ghost use Rattle.cu_task.specs.Serving.{ServesPlan, HasSeenInputs};
 ghost use Rattle.cu_work.specs.Alone.{HasRun, HasSeenDone, IsDecided, Tried, halt_outcome};
 ghost use Rattle.cu_work.specs.Calls.{calls_of_tasks};
 ghost use Rattle.cu_work.specs.Rooms.{rooms_of};
+ghost use Rattle.cu_work.specs.Starts.{IsOfWorkers};
 
 use crate::outcome::Outcome;
 use crate::rooms::{Rooms, task_bytes, task_words};
@@ -77,6 +78,7 @@ fn take_turns<Y: Yard>(
     ensures ran { HasRun (Y.serves yard.now) table.old table.new (Y.knows pass.old) (Y.knows pass.new) }
     ensures decided { IsDecided plan.now table.new.state result }
     ensures tries { (Y.knows pass.new).calls ≤ (Y.knows pass.old).calls + (table.old.settings.retries + 1) * calls_of_tasks plan.now }
+    ensures workers { IsOfWorkers 1 table.old.settings table.new.history }
 {
     history_law();
     alone_law();
@@ -99,7 +101,8 @@ fn take_turns<Y: Yard>(
 ///
 /// The table is that of this plan and has no history yet, and the pass has seen each chunk of each task that the table calls done.
 /// At the end no copy runs, the pass has seen each chunk of each task that is done, and its count of faults has risen by each
-/// failure of the history at least. Each task is tried at most `retries + 1` times. The outcome is that of the history's deciding event.
+/// failure of the history at least. Each task is tried at most `retries + 1` times, all by worker 0. The outcome is that of the
+/// history's deciding event.
 pub fn drive_alone<Y: Yard>(
     plan: &Plan,
     yard: &Y,
@@ -118,6 +121,7 @@ pub fn drive_alone<Y: Yard>(
     ensures ran { HasRun (Y.serves yard.now) table.old table.new (Y.knows pass.old) (Y.knows pass.new) }
     ensures decided { IsDecided plan.now table.new.state result }
     ensures tries { (Y.knows pass.new).calls ≤ (Y.knows pass.old).calls + (table.old.settings.retries + 1) * calls_of_tasks plan.now }
+    ensures workers { IsOfWorkers 1 table.old.settings table.new.history }
 {
     take_turns(plan, yard, pass, &mut rooms.bytes, &mut rooms.words, table)
 }

@@ -6,7 +6,7 @@ ghost use Rattle.cu_lock.specs.Rule.{IsKnownFront, AllBelow};
 ghost use Rattle.cu_lock.specs.Views.{first_root};
 ghost use Rattle.cu_board.specs.Board.{IsBoardState, halted_fault};
 ghost use Rattle.cu_work.specs.Rooms.{rooms_of};
-ghost use Rattle.cu_work.specs.Workers.{AreWorkersOf, AreNumbered, HaveRooms, IsRootOf, TookIn, front_of};
+ghost use Rattle.cu_work.specs.Workers.{AreWorkersOf, AreNumbered, HaveCounted, HaveRooms, IsRootOf, TookIn, front_of};
 
 use crate::outcome::Outcome;
 use crate::rooms::Rooms;
@@ -35,6 +35,7 @@ pub fn hire<Y: Yard>(
         × IsRootOf board.now.board (vec_len rooms) root.new) }
     ensures numbers { IfOk result (λ ws. AreNumbered ws.items) }
     ensures passes { IfOk result (λ ws. All (λ w. Y.knows w.pass ≡ uncounted (Y.knows pass.old)) ws.items) }
+    ensures counted { (p : PlanView) → IfOk result (λ ws. HaveCounted Y.knows p ws.items) }
     ensures refused { IfErr result (λ rest. (rest ≡ rooms) × (root.new ≡ root.old)) }
     ensures rooms { (p : PlanView) → All (λ r. r ≡ rooms_of p) rooms.items → IfOk result (λ ws. HaveRooms p ws.items) }
 {

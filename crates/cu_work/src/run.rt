@@ -8,10 +8,11 @@ ghost use Rattle.cu_op.specs.Elements.{Elements};
 ghost use Rattle.cu_run_law.specs.Left.{IsLeft, RunChange};
 ghost use Rattle.cu_run_law.specs.Pieces.{KeysApart, InputsApart, IsComplete};
 ghost use Rattle.cu_work.specs.Drive.{IsBadChunk, IsInputKey, IsTaskMost};
-ghost use Rattle.cu_work.specs.Calls.{calls_of_tasks, missing_texts};
+ghost use Rattle.cu_work.specs.Calls.{missing_texts};
 ghost use Rattle.cu_work.specs.declared.run.HeldTexts.TheVariants.{Neither};
 ghost use Rattle.cu_work.specs.Run.{run_of, share_fault, PutOfText, PutOfMissing, AreTextsHeld, IsRecordFirst, HoldsTexts, IsRunFault, IsTextPutFault, IsUnstored};
 ghost use Rattle.cu_work.specs.Shared.{IsOpen, IsMemoryFor, HasDriven, HoldsDone, AreCounted, IfBadChunk, IfComplete, IfLacked};
+ghost use Rattle.cu_work.specs.Starts.{IsOfWorkers, most_calls};
 ghost use Rattle.cu_work.specs.World.{IsFound};
 
 use crate::memory::RunMemory;
@@ -177,11 +178,12 @@ pub fn run_plan<H: Threads + Wait + Sync, D: Share, G: Gate>(
     ensures input { (env : Elements) → IsLeft (run_of plan.now texts.now) env (D.shown depot.old)
         → IfOk result (λ end. IfBadChunk end.outcome (λ key got want. IsInputKey plan.now key)) }
     ensures lacked { IfOk result (λ end. IfLacked end.outcome (IsTrue (D.yards_lack depot.new))) }
-    ensures tries { options.now.workers ≡ 1 → (m : ℕ) → IsTaskMost plan.now m → IfOk result (λ end. (D.shown depot.new).calls
-        ≤ (D.shown depot.old).calls + 3 * (options.now.retries + 1) + count_kind is_start end.table.history * m) }
+    ensures workers { IfOk result (λ end. IsOfWorkers options.now.workers memory.table.settings end.table.history) }
+    ensures tries { (m : ℕ) → IsTaskMost plan.now m → IfOk result (λ end. (D.shown depot.new).calls
+        ≤ (D.shown depot.old).calls + (missing_texts held + 1) * (options.now.retries + 1) + count_kind is_start end.table.history * m) }
     ensures begun { OnErr result ((D.shown depot.new).calls ≤ (D.shown depot.old).calls + (missing_texts held + 1) * (options.now.retries + 1)) }
-    ensures calls { options.now.workers ≡ 1 → (D.shown depot.new).calls
-        ≤ (D.shown depot.old).calls + (missing_texts held + 1 + calls_of_tasks plan.now) * (options.now.retries + 1) }
+    ensures calls { (D.shown depot.new).calls
+        ≤ (D.shown depot.old).calls + (missing_texts held + 1) * (options.now.retries + 1) + most_calls options.now plan.now }
 {
     if let Err(fault) = put_texts(plan, depot, texts, held, options.retries) {
         return Err(fault);

@@ -9,8 +9,8 @@ ghost use Rattle.cu_op.specs.Elements.{Elements};
 ghost use Rattle.cu_run_law.specs.Left.{IsLeft, RunChange};
 ghost use Rattle.cu_run_law.specs.Pieces.{chunks_alone, KeysApart, InputsApart};
 ghost use Rattle.cu_work.specs.Drive.{IsBadChunk, IsInputKey, IsTaskMost};
-ghost use Rattle.cu_work.specs.Calls.{calls_of_tasks};
 ghost use Rattle.cu_work.specs.Shared.{promised_writes, IsOpen, IsMemoryFor, HasDriven, HoldsDone, AreCounted, IfBadChunk, IfComplete, IfLacked};
+ghost use Rattle.cu_work.specs.Starts.{IsOfWorkers, most_calls};
 ghost use Rattle.cu_work.specs.World.{IsFound};
 
 use crate::memory::RunMemory;
@@ -51,10 +51,11 @@ fn run_promised<K: Promised, H: Threads + Wait + Sync, D: Share, G: Gate>(
     ensures input { (env : Elements) → IsLeft (chunks_alone plan.now) env (D.shown depot.old)
         → IfOk result (λ end. IfBadChunk end.outcome (λ key got want. IsInputKey plan.now key)) }
     ensures lacked { IfOk result (λ end. IfLacked end.outcome (IsTrue (D.yards_lack depot.new))) }
-    ensures tries { options.now.workers ≡ 1 → (m : ℕ) → IsTaskMost plan.now m → IfOk result (λ end. (D.shown depot.new).calls
+    ensures workers { IfOk result (λ end. IsOfWorkers options.now.workers memory.table.settings end.table.history) }
+    ensures tries { (m : ℕ) → IsTaskMost plan.now m → IfOk result (λ end. (D.shown depot.new).calls
         ≤ (D.shown depot.old).calls + (options.now.retries + 1) + count_kind is_start end.table.history * m) }
-    ensures calls { options.now.workers ≡ 1 → (D.shown depot.new).calls
-        ≤ (D.shown depot.old).calls + (1 + calls_of_tasks plan.now) * (options.now.retries + 1) }
+    ensures calls { (D.shown depot.new).calls
+        ≤ (D.shown depot.old).calls + (options.now.retries + 1) + most_calls options.now plan.now }
     ensures refused { OnErr result (Steps NoChange 0 (options.now.retries + 1) (D.shown depot.old) (D.shown depot.new)) }
     ensures cause { IfErr result (IsShareFault (options.now.retries + 1) (D.shown depot.old) (D.shown depot.new)) }
 {
@@ -121,10 +122,11 @@ pub fn run_tasks<H: Threads + Wait + Sync, D: Share, G: Gate>(
     ensures input { (env : Elements) → IsLeft (chunks_alone plan.now) env (D.shown depot.old)
         → IfOk result (λ end. IfBadChunk end.outcome (λ key got want. IsInputKey plan.now key)) }
     ensures lacked { IfOk result (λ end. IfLacked end.outcome (IsTrue (D.yards_lack depot.new))) }
-    ensures tries { options.now.workers ≡ 1 → (m : ℕ) → IsTaskMost plan.now m → IfOk result (λ end. (D.shown depot.new).calls
+    ensures workers { IfOk result (λ end. IsOfWorkers options.now.workers memory.table.settings end.table.history) }
+    ensures tries { (m : ℕ) → IsTaskMost plan.now m → IfOk result (λ end. (D.shown depot.new).calls
         ≤ (D.shown depot.old).calls + (options.now.retries + 1) + count_kind is_start end.table.history * m) }
-    ensures calls { options.now.workers ≡ 1 → (D.shown depot.new).calls
-        ≤ (D.shown depot.old).calls + (1 + calls_of_tasks plan.now) * (options.now.retries + 1) }
+    ensures calls { (D.shown depot.new).calls
+        ≤ (D.shown depot.old).calls + (options.now.retries + 1) + most_calls options.now plan.now }
     ensures refused { OnErr result (Steps NoChange 0 (options.now.retries + 1) (D.shown depot.old) (D.shown depot.new)) }
     ensures cause { IfErr result (IsShareFault (options.now.retries + 1) (D.shown depot.old) (D.shown depot.new)) }
 {

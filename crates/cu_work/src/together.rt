@@ -1,11 +1,9 @@
 //! The tasks of a plan are run in a yard, by one worker or by several.
-ghost use Rattle.std.specs.Prelude.{◌≡◌, ℕ, ◌+◌, ◌*◌, ◌<◌, ◌≤◌, ◌^◌, [], All, IfOk, IfErr, vec_len};
-ghost use Rattle.cu_history.specs.History.{is_start, count_kind};
+ghost use Rattle.std.specs.Prelude.{◌≡◌, ◌≢◌, ◌<◌, ◌^◌, [], All, IfOk, IfErr, vec_len};
 ghost use Rattle.cu_task.specs.Serving.{ServesPlan};
 ghost use Rattle.cu_work.specs.Alone.{HasSeenDone, IsDecided};
-ghost use Rattle.cu_work.specs.Drive.{IsTaskMost};
-ghost use Rattle.cu_work.specs.Calls.{calls_of_tasks};
 ghost use Rattle.cu_work.specs.Rooms.{rooms_of};
+ghost use Rattle.cu_work.specs.Starts.{IsOfWorkers};
 ghost use Rattle.cu_work.specs.Workers.{HasWorked};
 
 use crate::alone::drive_alone;
@@ -40,9 +38,7 @@ fn work_alone<Y: Yard>(
     ensures own { Y.owns yard.now pass.new }
     ensures worked { HasWorked (Y.serves yard.now) table result.table (Y.knows pass.old) (Y.knows pass.new) }
     ensures decided { IsDecided plan.now result.table.state result.outcome }
-    ensures calls { (m : ℕ) → IsTaskMost plan.now m
-        → (Y.knows pass.new).calls ≤ (Y.knows pass.old).calls + count_kind is_start result.table.history * m }
-    ensures tries { (Y.knows pass.new).calls ≤ (Y.knows pass.old).calls + (table.settings.retries + 1) * calls_of_tasks plan.now }
+    ensures workers { IsOfWorkers 1 table.settings result.table.history }
 {
     let outcome = drive_alone(plan, yard, pass, &mut rooms[0], &mut table);
     RunEnd { outcome, table }
@@ -64,6 +60,7 @@ fn work_at_board<H: Threads + Wait + Sync, Y: Yard, G: Gate>(
     requires serves { ServesPlan plan.now (Y.serves yard.now) }
     requires some { 0 < vec_len rooms }
     requires few { vec_len rooms < 2 ^ 32 }
+    requires several { vec_len rooms ≢ 1 }
     requires rooms { All (λ r. r ≡ rooms_of plan.now) rooms.items }
     requires plan { table.settings.plan ≡ plan.now }
     requires fresh { table.history ≡ [] }
@@ -71,6 +68,7 @@ fn work_at_board<H: Threads + Wait + Sync, Y: Yard, G: Gate>(
     ensures own { Y.owns yard.now pass.new }
     ensures worked { IfOk result (λ end. HasWorked (Y.serves yard.now) table end.table (Y.knows pass.old) (Y.knows pass.new)) }
     ensures decided { IfOk result (λ end. IsDecided plan.now end.table.state end.outcome) }
+    ensures workers { IfOk result (λ end. IsOfWorkers (vec_len rooms) table.settings end.table.history) }
     ensures refused { IfErr result (λ back. (back.0 ≡ table) × (back.1 ≡ rooms) × (Y.knows pass.new ≡ Y.knows pass.old)) }
 {
     outcome_law();
@@ -99,8 +97,9 @@ fn work_at_board<H: Threads + Wait + Sync, Y: Yard, G: Gate>(
 /// nobody. Where there is no memory for the board of several, one runs all tasks.
 ///
 /// The table is that of this plan and has no history yet, and the pass has seen each chunk of each task that the table calls done.
-/// At the end no copy runs, the pass has seen each chunk of each task that is done, and its count of faults has risen by each
-/// failure of the history at least. The outcome is that of the history's deciding event.
+/// At the end no copy runs, and the pass has seen each chunk of each task that is done. Its count of faults has risen by each
+/// failure of the history at least, and its count of calls by those of each start at most. Each entry is of a worker whose number
+/// is below theirs. The outcome is that of the history's deciding event.
 pub(crate) fn work<H: Threads + Wait + Sync, Y: Yard, G: Gate>(
     rt: &H,
     alloc: Global,
@@ -123,9 +122,7 @@ pub(crate) fn work<H: Threads + Wait + Sync, Y: Yard, G: Gate>(
     ensures own { Y.owns yard.now pass.new }
     ensures worked { HasWorked (Y.serves yard.now) table result.table (Y.knows pass.old) (Y.knows pass.new) }
     ensures decided { IsDecided plan.now result.table.state result.outcome }
-    ensures calls { workers ≡ 1 → (m : ℕ) → IsTaskMost plan.now m
-        → (Y.knows pass.new).calls ≤ (Y.knows pass.old).calls + count_kind is_start result.table.history * m }
-    ensures tries { workers ≡ 1 → (Y.knows pass.new).calls ≤ (Y.knows pass.old).calls + (table.settings.retries + 1) * calls_of_tasks plan.now }
+    ensures workers { IsOfWorkers workers table.settings result.table.history }
 {
     if workers == 1 {
         return work_alone(plan, yard, pass, rooms, table);

@@ -4,8 +4,9 @@ ghost use Rattle.cu_region.specs.Passes.{IsLaterIn};
 ghost use Rattle.cu_task.specs.Serving.{ServesPlan, HasSeenInputs};
 ghost use Rattle.cu_table.specs.Numbers.{IsTask};
 ghost use Rattle.cu_board.specs.Board.{MayReport};
+ghost use Rattle.cu_work.specs.Alone.{Tried};
 ghost use Rattle.cu_work.specs.Rooms.{rooms_of};
-ghost use Rattle.cu_work.specs.Workers.{IsWorkerOf, KnowsEnd, AreWorkersOf, AreNumbered, HaveRooms};
+ghost use Rattle.cu_work.specs.Workers.{IsWorkerOf, KnowsEnd, AreWorkersOf, AreNumbered, HasCounted, HaveCounted, HaveRooms};
 
 use crate::alone::{halt_outcome, try_in_yard};
 use crate::outcome::Outcome;
@@ -35,6 +36,7 @@ fn try_in_rooms<Y: Yard>(
     requires rooms { rooms.old ≡ rooms_of plan.now }
     ensures own { Y.owns yard.now pass.new }
     ensures rooms { rooms.new ≡ rooms.old }
+    ensures tried { Tried plan.now op task (Y.serves yard.now) (Y.knows pass.old, Y.knows pass.new) result }
     ensures may { MayReport plan.now op task result (Y.knows pass.new) }
     ensures later { IsLaterIn (Y.serves yard.now).specs (Y.knows pass.old) (Y.knows pass.new) }
 {
@@ -64,10 +66,12 @@ fn work_to_end<H: Wait, Y: Yard, G: Gate>(
     requires own { Y.owns yard.now board.now.pass }
     requires worker { IsWorkerOf Y.owns yard.now board.now.board worker.old.number worker.old.seat worker.old.pass }
     requires rooms { worker.old.rooms ≡ rooms_of plan.now }
+    requires counted { HasCounted plan.now worker.old.seat.view (Y.knows worker.old.pass) }
     ensures worker { IsWorkerOf Y.owns yard.now board.now.board worker.old.number worker.new.seat worker.new.pass }
     ensures number { worker.new.number ≡ worker.old.number }
     ensures rooms { worker.new.rooms ≡ worker.old.rooms }
     ensures later { IsLaterIn (Y.serves yard.now).specs (Y.knows worker.old.pass) (Y.knows worker.new.pass) }
+    ensures counted { HasCounted plan.now worker.new.seat.view (Y.knows worker.new.pass) }
     ensures ended { KnowsEnd board.now.table worker.new.seat.view (Y.knows worker.new.pass) result }
 {
     input_cells_law();
@@ -113,10 +117,12 @@ fn run_worker<H: Wait, Y: Yard, G: Gate>(
     requires own { Y.owns yard.now board.now.pass }
     requires worker { IsWorkerOf Y.owns yard.now board.now.board worker.old.number worker.old.seat worker.old.pass }
     requires rooms { worker.old.rooms ≡ rooms_of plan.now }
+    requires counted { HasCounted plan.now worker.old.seat.view (Y.knows worker.old.pass) }
     ensures worker { IsWorkerOf Y.owns yard.now board.now.board worker.old.number worker.new.seat worker.new.pass }
     ensures number { worker.new.number ≡ worker.old.number }
     ensures rooms { worker.new.rooms ≡ worker.old.rooms }
     ensures later { IsLaterIn (Y.serves yard.now).specs (Y.knows worker.old.pass) (Y.knows worker.new.pass) }
+    ensures counted { HasCounted plan.now worker.new.seat.view (Y.knows worker.new.pass) }
     ensures ended { KnowsEnd board.now.table worker.new.seat.view (Y.knows worker.new.pass) worker.new.outcome }
 {
     let outcome = work_to_end(rt, plan, yard, board, worker, gate);
@@ -128,7 +134,8 @@ fn run_worker<H: Wait, Y: Yard, G: Gate>(
 ///
 /// The table and the rooms are those of this plan. The workers are numbered from 0, with seats of this board that leave no task
 /// running, and passes of this yard, to which the board's pass belongs too. At the end what each worker knows of the history is
-/// legal and has ended as its outcome says, and no pass has forgotten what it had seen. The outcome is that of worker 0.
+/// legal and has ended as its outcome says, and no pass has forgotten what it had seen. Each has counted the failures among its
+/// worker's entries, and at most the calls of the starts among them. The outcome is that of worker 0.
 pub fn drive<H: Threads + Wait + Sync, Y: Yard, G: Gate>(
     rt: &H,
     plan: &Plan,
@@ -144,12 +151,14 @@ pub fn drive<H: Threads + Wait + Sync, Y: Yard, G: Gate>(
     requires workers { AreWorkersOf Y.owns yard.now board.now.board workers.old }
     requires numbers { AreNumbered workers.old }
     requires rooms { HaveRooms plan.now workers.old }
+    requires counted { HaveCounted Y.knows plan.now workers.old }
     ensures count { length workers.new ≡ length workers.old }
     ensures workers { AreWorkersOf Y.owns yard.now board.now.board workers.new }
     ensures numbers { AreNumbered workers.new }
     ensures rooms { HaveRooms plan.now workers.new }
     ensures later { (i : ℕ) (d : _) → i < length workers.old → IsLaterIn (Y.serves yard.now).specs
         (Y.knows (slice_index_or workers.old i d).pass) (Y.knows (slice_index_or workers.new i d).pass) }
+    ensures counted { HaveCounted Y.knows plan.now workers.new }
     ensures ended { (i : ℕ) (d : _) → i < length workers.old → KnowsEnd board.now.table (slice_index_or workers.new i d).seat.view
         (Y.knows (slice_index_or workers.new i d).pass) (slice_index_or workers.new i d).outcome }
     ensures answer { (d : _) → result ≡ (slice_index_or workers.new 0 d).outcome }
@@ -157,11 +166,13 @@ pub fn drive<H: Threads + Wait + Sync, Y: Yard, G: Gate>(
     let count = workers.len();
     let turns = |_: usize, worker: &mut Worker<Y>|
         requires { (board.now.table.settings.plan ≡ plan.now) × ServesPlan plan.now (Y.serves yard.now) × Y.owns yard.now board.now.pass
-            × IsWorkerOf Y.owns yard.now board.now.board worker.now.number worker.now.seat worker.now.pass × (worker.now.rooms ≡ rooms_of plan.now) }
+            × IsWorkerOf Y.owns yard.now board.now.board worker.now.number worker.now.seat worker.now.pass × (worker.now.rooms ≡ rooms_of plan.now)
+            × HasCounted plan.now worker.now.seat.view (Y.knows worker.now.pass) }
         ensures { IsWorkerOf Y.owns yard.entry.now board.entry.now.board worker.entry.now.number worker.exit.now.seat worker.exit.now.pass
             × (worker.exit.now.number ≡ worker.entry.now.number) × (worker.exit.now.rooms ≡ worker.entry.now.rooms)
             × IsLaterIn (Y.serves yard.entry.now).specs (Y.knows worker.entry.now.pass) (Y.knows worker.exit.now.pass)
-            × KnowsEnd board.entry.now.table worker.exit.now.seat.view (Y.knows worker.exit.now.pass) worker.exit.now.outcome }
+            × KnowsEnd board.entry.now.table worker.exit.now.seat.view (Y.knows worker.exit.now.pass) worker.exit.now.outcome
+            × HasCounted plan.entry.now worker.exit.now.seat.view (Y.knows worker.exit.now.pass) }
     { run_worker(rt, plan, yard, board, worker, gate) };
     thread::for_each_mut(rt, workers, count, &turns);
     workers[0].outcome

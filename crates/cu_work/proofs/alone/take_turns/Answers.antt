@@ -7,7 +7,7 @@ use Rattle.cu_table.specs.Step.{Settings}
 use Rattle.cu_table.specs.Table.{TableView, Goes, start_event, end_of, report_kind, is_late, KeepsFault}
 use Rattle.cu_work.specs.Alone.{HasRun, HasSeenDone, Tried}
 use Rattle.cu_work.proofs.AloneTurns.{ran_first, nobody_runs, turn_task, turn_inputs, turn_runs, turn_on_time, turn_done, fewer_left, finished_decided, halted_decided}
-use Rattle.cu_work.proofs.AloneTries.{tried_first, tried_more, tried_calls}
+use Rattle.cu_work.proofs.AloneTries.{tried_first, tried_more, tried_calls, tried_workers}
 use Rattle.cu_work.proofs.alone.take_turns.Goals as goal
 
 pub loop-op-init : goal.loop-op-init
@@ -137,3 +137,15 @@ returns-in-Broken-clause-tries g c =
 pub returns-in-Halted-clause-tries : goal.returns-in-Halted-clause-tries
 returns-in-Halted-clause-tries g c =
     tried_calls c.args.table.now c.loop-op.table (g.Y.Yard.knows c.args.pass.now) (g.Y.Yard.knows c.loop-op.pass) c.args.plan.now c.requires.plan c.loop-op.invariant.tried
+
+pub returns-in-Finished-clause-workers : goal.returns-in-Finished-clause-workers
+returns-in-Finished-clause-workers g c =
+    tried_workers c.args.table.now c.loop-op.table c.claim.new.self (g.Y.Yard.knows c.args.pass.now) (g.Y.Yard.knows c.loop-op.pass) c.in-Finished.ensures.answer.0 c.loop-op.invariant.tried
+
+pub returns-in-Broken-clause-workers : goal.returns-in-Broken-clause-workers
+returns-in-Broken-clause-workers g c =
+    tried_workers c.args.table.now c.loop-op.table c.claim.new.self (g.Y.Yard.knows c.args.pass.now) (g.Y.Yard.knows c.loop-op.pass) c.in-Broken.ensures.answer.0 c.loop-op.invariant.tried
+
+pub returns-in-Halted-clause-workers : goal.returns-in-Halted-clause-workers
+returns-in-Halted-clause-workers g c =
+    tried_workers c.args.table.now c.loop-op.table c.claim.new.self (g.Y.Yard.knows c.args.pass.now) (g.Y.Yard.knows c.loop-op.pass) c.in-Halted.ensures.answer.0 c.loop-op.invariant.tried

@@ -7,10 +7,11 @@ use Rattle.cu_table.specs.Own.{left_running}
 use Rattle.std.specs.Prelude.{All, vec_len}
 use Rattle.std.proofs.lemmas.List.Elements.{All-head, All-tail, All-push}
 use Rattle.cu_work.specs.Rooms.{RoomSizes, rooms_of}
-use Rattle.cu_work.specs.Workers.{IsWorkerOf, AreWorkersOf, AreNumbered, IsRootOf}
+use Rattle.cu_work.specs.Workers.{IsWorkerOf, AreWorkersOf, AreNumbered, HaveCounted, IsRootOf}
 use Rattle.cu_work.specs.declared.worker.Worker.{Worker}
 use Rattle.cu_work.specs.declared.outcome.Outcome.TheVariants.{Lacked}
-use Rattle.cu_work.proofs.Crews.{crew_snoc, numbered_snoc}
+use Rattle.cu_work.proofs.Crews.{crew_snoc, numbered_snoc, counted_snoc}
+use Rattle.cu_work.proofs.OwnCounts.{counted_first}
 use Rattle.cu_work.proofs.crew.hire.Goals as goal
 
 -- while a room is left the list has a place for its worker
@@ -62,6 +63,10 @@ loop-room-preserved g c =
       subst (All (λ (x : Worker g.row.Y.Denot g.row.Y-Pass.Denot). g.Y.Yard.knows x.pass ≡ uncounted (g.Y.Yard.knows c.args.pass.now))) (sym p.items)
           (All-push (λ (x : Worker g.row.Y.Denot g.row.Y-Pass.Denot). g.Y.Yard.knows x.pass ≡ uncounted (g.Y.Yard.knows c.args.pass.now)) c.loop-room.workers.items w i.13
           (y.second ∙ ap uncounted i.11)),
+      λ q. subst (HaveCounted g.Y.Yard.knows q) (sym p.items)
+          (counted_snoc g.Y.Yard.knows q c.loop-room.workers.items w (i.14 q)
+          (counted_first q c.split-seat.result.view (g.Y.Yard.knows c.split-pass.result) (g.Y.Yard.knows c.loop-room.pass)
+          (ap (λ (x : SeatAt). x.view.front) s.seat ∙ i.7) y.second)),
     )
 
 pub returns-clause-rooms : goal.returns-clause-rooms
@@ -84,6 +89,9 @@ returns-clause-same g c = c.loop-room.invariant.11
 
 pub returns-clause-numbers : goal.returns-clause-numbers
 returns-clause-numbers g c = c.loop-room.invariant.9
+
+pub returns-clause-counted : goal.returns-clause-counted
+returns-clause-counted g c = c.loop-room.invariant.14
 
 pub returns-clause-refused : goal.returns-clause-refused
 returns-clause-refused g c = tt
@@ -130,6 +138,9 @@ returns-in_default-clause-numbers g c = tt
 
 pub returns-in_default-clause-passes : goal.returns-in_default-clause-passes
 returns-in_default-clause-passes g c = tt
+
+pub returns-in_default-clause-counted : goal.returns-in_default-clause-counted
+returns-in_default-clause-counted g c = λ p. tt
 
 pub returns-in_default-clause-refused : goal.returns-in_default-clause-refused
 returns-in_default-clause-refused g c = (refl, refl)

@@ -4,7 +4,7 @@ use Rattle.cu_store.specs.Yard.{uncounted}
 use Rattle.cu_op.specs.PlanView.{PlanView}
 use Rattle.cu_work.specs.Rooms.{RoomSizes, rooms_of}
 use Rattle.cu_work.specs.declared.worker.Worker.{Worker}
-use Rattle.cu_work.specs.Workers.{AreWorkersOf, AreNumbered, IsRootOf}
+use Rattle.cu_work.specs.Workers.{AreWorkersOf, AreNumbered, HaveCounted, IsRootOf}
 use Rattle.cu_work.proofs.crew.hire.Given as goal
 
 abbrev pub invariant-loop-room : goal.invariant-loop-room
@@ -17,3 +17,4 @@ invariant-loop-room g l =
     × ((p : PlanView) → All (λ (r : RoomSizes). r ≡ rooms_of p) l.fn.rooms.items → All (λ (r : RoomSizes). r ≡ rooms_of p) l.room-iterator.rest.items
     × All (λ (w : Worker g.row.Y.Denot g.row.Y-Pass.Denot). w.rooms ≡ rooms_of p) l.workers.items)
     × All (λ (w : Worker g.row.Y.Denot g.row.Y-Pass.Denot). g.Y.Yard.knows w.pass ≡ uncounted (g.Y.Yard.knows l.fn.pass)) l.workers.items
+    × ((p : PlanView) → HaveCounted g.Y.Yard.knows p l.workers.items)

@@ -1,25 +1,18 @@
 use Rattle.std.proofs.Common.{◌≡◌, ◌+◌, ◌*◌, ◌≤◌, ◌∙◌, ℕ, inr, sym, ap, subst, arith}
-use Rattle.std.proofs.Math.Nat.{mul-add, mul_comm}
 use Rattle.cu_store.proofs.Steps.{steps_wider}
-use Rattle.cu_work.specs.Calls.{missing_texts, calls_of_tasks}
+use Rattle.cu_work.specs.Calls.{missing_texts}
+use Rattle.cu_work.specs.Starts.{most_calls}
 use Rattle.cu_table.specs.Table.{TableView}
 use Rattle.cu_work.specs.Run.{run_of, IsUnstored}
 use Rattle.cu_work.proofs.Running.{unstored_first, apart_alone, open_mid, found_mid, run_step, texts_after, alone_mid, complete_after, share_unstored, share_refused}
 use Rattle.cu_work.proofs.run.run_plan.Goals as goal
 
 -- the calls of so many tries, and of more
-mul_sum : (m k r : ℕ) → (m + k) * r ≡ m * r + k * r
-mul_sum m k r = mul_comm (m + k) r ∙ mul-add r m k ∙ ap (λ (x : ℕ). x + r * k) (mul_comm r m) ∙ ap (λ (x : ℕ). m * r + x) (mul_comm r k)
+more_tries : (n a m r k : ℕ) → n ≤ a + m * r → n ≤ a + (m + 1) * r + k
+more_tries n a m r k few = omega (arith, few)
 
-more_tries : (n a m k r : ℕ) → n ≤ a + m * r → n ≤ a + (m + k) * r
-more_tries n a m k r few = let e = mul_sum m k r in omega (arith, e, few)
-
-both_tries : (a mid n m t r : ℕ) → mid ≤ a + m * r → n ≤ mid + (1 + t) * r → n ≤ a + (m + 1 + t) * r
-both_tries a mid n m t r first then =
-    let e = mul_sum (m + 1) t r in
-    let f = mul_sum m 1 r in
-    let h = mul_sum 1 t r in
-    omega (arith, e, f, h, first, then)
+both_tries : (a mid n m r k : ℕ) → mid ≤ a + m * r → n ≤ mid + r + k → n ≤ a + (m + 1) * r + k
+both_tries a mid n m r k first then = omega (arith, first, then)
 
 pub returns-in-Err-clause-record : goal.returns-in-Err-clause-record
 returns-in-Err-clause-record g c = λ env left.
@@ -92,10 +85,17 @@ returns-in-Err-run_tasks-clause-refused g c =
     share_refused c.args.plan.now c.args.texts.now c.args.held (c.args.options.now.retries + 1) (g.D.Depot.shown c.args.depot.now) (g.D.Depot.shown c.put_texts.new.depot) c.put_texts.ensures.step c.put_texts.ensures.own (g.D.Depot.shown c.run_tasks.new.depot) c.in-Err-run_tasks.ensures.refused
 
 pub returns-in-Ok-clause-tries : goal.returns-in-Ok-clause-tries
-returns-in-Ok-clause-tries g c = λ alone m most.
-    let texts = c.put_texts.ensures.own.calls.1 in
-    let tasks = c.in-Ok.ensures.tries alone m most in
-    omega (arith, texts, tasks)
+returns-in-Ok-clause-tries g c = λ m most.
+    both_tries _ _ _ (missing_texts c.args.held) (c.args.options.now.retries + 1) _ c.put_texts.ensures.calls (c.in-Ok.ensures.tries m most)
+
+pub returns-in-Ok-clause-workers : goal.returns-in-Ok-clause-workers
+returns-in-Ok-clause-workers g c = c.in-Ok.ensures.workers
+
+pub returns-in-Err-clause-workers : goal.returns-in-Err-clause-workers
+returns-in-Err-clause-workers g c = tt
+
+pub returns-in-Err-run_tasks-clause-workers : goal.returns-in-Err-run_tasks-clause-workers
+returns-in-Err-run_tasks-clause-workers g c = tt
 
 pub run_tasks-requires-clause-inputs : goal.run_tasks-requires-clause-inputs
 run_tasks-requires-clause-inputs g c κs within = c.requires.inputs
@@ -137,7 +137,7 @@ pub returns-in-Err-clause-lacked : goal.returns-in-Err-clause-lacked
 returns-in-Err-clause-lacked g c = tt
 
 pub returns-in-Err-clause-tries : goal.returns-in-Err-clause-tries
-returns-in-Err-clause-tries g c = λ one m most. tt
+returns-in-Err-clause-tries g c = λ m most. tt
 
 pub returns-in-Err-clause-step : goal.returns-in-Err-clause-step
 returns-in-Err-clause-step g c = steps_wider (λ key value change. change) (omega arith) (omega arith) c.put_texts.ensures.step
@@ -146,10 +146,10 @@ pub returns-in-Err-clause-refused : goal.returns-in-Err-clause-refused
 returns-in-Err-clause-refused g c = steps_wider (λ key value change. change) (omega arith) (omega arith) c.put_texts.ensures.own
 
 pub returns-in-Err-clause-begun : goal.returns-in-Err-clause-begun
-returns-in-Err-clause-begun g c = more_tries (g.D.Depot.shown c.put_texts.new.depot).calls (g.D.Depot.shown c.args.depot.now).calls (missing_texts c.args.held) 1 (c.args.options.now.retries + 1) c.put_texts.ensures.calls
+returns-in-Err-clause-begun g c = let few = more_tries _ _ (missing_texts c.args.held) (c.args.options.now.retries + 1) 0 c.put_texts.ensures.calls in omega (arith, few)
 
 pub returns-in-Err-clause-calls : goal.returns-in-Err-clause-calls
-returns-in-Err-clause-calls g c one = more_tries (g.D.Depot.shown c.put_texts.new.depot).calls (g.D.Depot.shown c.args.depot.now).calls (missing_texts c.args.held + 1) (calls_of_tasks c.args.plan.now) (c.args.options.now.retries + 1) (more_tries (g.D.Depot.shown c.put_texts.new.depot).calls (g.D.Depot.shown c.args.depot.now).calls (missing_texts c.args.held) 1 (c.args.options.now.retries + 1) c.put_texts.ensures.calls)
+returns-in-Err-clause-calls g c = more_tries _ _ (missing_texts c.args.held) (c.args.options.now.retries + 1) (most_calls c.args.options.now c.args.plan.now) c.put_texts.ensures.calls
 
 pub returns-in-Ok-clause-unstored : goal.returns-in-Ok-clause-unstored
 returns-in-Ok-clause-unstored g c = λ env left. tt
@@ -173,7 +173,8 @@ pub returns-in-Ok-clause-lacked : goal.returns-in-Ok-clause-lacked
 returns-in-Ok-clause-lacked g c = c.in-Ok.ensures.lacked
 
 pub returns-in-Ok-clause-calls : goal.returns-in-Ok-clause-calls
-returns-in-Ok-clause-calls g c one = both_tries (g.D.Depot.shown c.args.depot.now).calls (g.D.Depot.shown c.put_texts.new.depot).calls (g.D.Depot.shown c.run_tasks.new.depot).calls (missing_texts c.args.held) (calls_of_tasks c.args.plan.now) (c.args.options.now.retries + 1) c.put_texts.ensures.calls (c.run_tasks.ensures.calls one)
+returns-in-Ok-clause-calls g c =
+    both_tries _ _ _ (missing_texts c.args.held) (c.args.options.now.retries + 1) (most_calls c.args.options.now c.args.plan.now) c.put_texts.ensures.calls c.run_tasks.ensures.calls
 
 pub returns-in-Err-run_tasks-clause-texts : goal.returns-in-Err-run_tasks-clause-texts
 returns-in-Err-run_tasks-clause-texts g c = λ env left. tt
@@ -200,7 +201,8 @@ pub returns-in-Err-run_tasks-clause-lacked : goal.returns-in-Err-run_tasks-claus
 returns-in-Err-run_tasks-clause-lacked g c = tt
 
 pub returns-in-Err-run_tasks-clause-tries : goal.returns-in-Err-run_tasks-clause-tries
-returns-in-Err-run_tasks-clause-tries g c = λ one m most. tt
+returns-in-Err-run_tasks-clause-tries g c = λ m most. tt
 
 pub returns-in-Err-run_tasks-clause-calls : goal.returns-in-Err-run_tasks-clause-calls
-returns-in-Err-run_tasks-clause-calls g c one = both_tries (g.D.Depot.shown c.args.depot.now).calls (g.D.Depot.shown c.put_texts.new.depot).calls (g.D.Depot.shown c.run_tasks.new.depot).calls (missing_texts c.args.held) (calls_of_tasks c.args.plan.now) (c.args.options.now.retries + 1) c.put_texts.ensures.calls (c.run_tasks.ensures.calls one)
+returns-in-Err-run_tasks-clause-calls g c =
+    both_tries _ _ _ (missing_texts c.args.held) (c.args.options.now.retries + 1) (most_calls c.args.options.now c.args.plan.now) c.put_texts.ensures.calls c.run_tasks.ensures.calls

@@ -1,10 +1,9 @@
 use Rattle.std.proofs.Common.{◌≡◌, ◌≤◌, ℕ, Bool, IsTrue, All, length, ◌+◌, ◌*◌, ap, sym, ◌∙◌, refl, subst, arith}
 use Rattle.std.specs.Prelude.{min}
-use Rattle.std.proofs.Math.Nat.{mul-add, mul_comm}
 use Rattle.std.proofs.lemmas.List.{length-replicate}
 use Rattle.std.proofs.lemmas.List.Elements.{All-replicate}
 use Rattle.cu_store.specs.Faults.{last_count}
-use Rattle.cu_work.specs.Calls.{calls_of_tasks}
+use Rattle.cu_work.proofs.SharedCalls.{calls_by_starts, calls_of_all}
 use Rattle.cu_work.specs.Rooms.{RoomSizes, rooms_of}
 use Rattle.cu_store.specs.Share.{Lent, KeysDiffer, MayShare, IsShared, MayGiveBack, PutPromised, HoldsSeen}
 use Rattle.cu_store.specs.Steps.{Steps}
@@ -23,9 +22,9 @@ use Rattle.cu_work.proofs.shared.run_promised.Goals as goal
 few_calls : (start mid new first last tries tasks : ℕ) → mid ≤ start + tries → first ≡ 0 → last ≤ first + tasks → new ≤ mid + last → new ≤ start + tries + tasks
 few_calls start mid new first last tries tasks shared none ran back = omega arith
 
--- ... where each task is tried as often as the keys are shared
-few_tries : (start new tries most : ℕ) → new ≤ start + tries + tries * most → new ≤ start + (1 + most) * tries
-few_tries start new tries most few = let e : (1 + most) * tries ≡ tries * 1 + tries * most = mul_comm (1 + most) tries ∙ mul-add tries 1 most in omega (arith, e, few)
+-- those to share alone
+some_calls : (start new tries tasks : ℕ) → new ≤ start + tries → new ≤ start + tries + tasks
+some_calls start new tries tasks few = omega (arith, few)
 
 -- the failures of the tasks are counted by the depot
 failures_counted : (n start mid new first last : ℕ) → start ≤ mid → first ≡ 0 → min (first + n) last_count ≤ last → new ≡ min (mid + last) last_count → min (start + n) last_count ≤ new
@@ -195,7 +194,7 @@ pub returns-in-Err-clause-lacked : goal.returns-in-Err-clause-lacked
 returns-in-Err-clause-lacked g c = tt
 
 pub returns-in-Err-clause-tries : goal.returns-in-Err-clause-tries
-returns-in-Err-clause-tries g c = λ one m most. tt
+returns-in-Err-clause-tries g c = λ m most. tt
 
 pub returns-in-Err-clause-refused : goal.returns-in-Err-clause-refused
 returns-in-Err-clause-refused g c = c.share_tries.ensures.step
@@ -239,16 +238,25 @@ returns-in-Ok-clause-driven g c =
       rose = failures_counted _ _ _ _ _ _ c.share_tries.ensures.step.count c.in-Ok.ensures.shared.faults w.rose c.unshare.ensures.counts.faults;
     }
 
+pub returns-in-Ok-clause-workers : goal.returns-in-Ok-clause-workers
+returns-in-Ok-clause-workers g c = c.work-end.ensures.workers
+
 pub returns-in-Ok-clause-tries : goal.returns-in-Ok-clause-tries
-returns-in-Ok-clause-tries g c = λ one m most.
-    few_calls _ _ _ _ _ _ _ c.share_tries.ensures.step.calls.1 c.in-Ok.ensures.shared.calls (c.work-end.ensures.calls one m most) c.unshare.ensures.step.calls.1
+returns-in-Ok-clause-tries g c = λ m most.
+    few_calls _ _ _ _ _ _ _ c.share_tries.ensures.step.calls.1 c.in-Ok.ensures.shared.calls
+    (calls_by_starts c.args.options.now c.args.plan.now c.args.memory.table.done c.args.memory.table c.work-end.result.table c.requires.memory.table (g.D.Yard.Yard.serves c.in-Ok.yard)
+    (g.D.Yard.Yard.knows c.in-Ok.pass) (g.D.Yard.Yard.knows c.work-end.new.pass) c.work-end.ensures.worked m most)
+    c.unshare.ensures.step.calls.1
 
 pub returns-in-Ok-clause-calls : goal.returns-in-Ok-clause-calls
-returns-in-Ok-clause-calls g c = λ one.
-    few_tries _ _ (c.args.options.now.retries + 1) (calls_of_tasks c.args.plan.now)
-    (few_calls _ _ _ _ _ _ _ c.share_tries.ensures.step.calls.1 c.in-Ok.ensures.shared.calls
-    (subst (λ (r : ℕ). (g.D.Yard.Yard.knows c.work-end.new.pass).calls ≤ (g.D.Yard.Yard.knows c.in-Ok.pass).calls + (r + 1) * calls_of_tasks c.args.plan.now) (ap (λ (t : TableView). t.settings.retries) c.requires.memory.table) (c.work-end.ensures.tries one))
-    c.unshare.ensures.step.calls.1)
+returns-in-Ok-clause-calls g c =
+    few_calls _ _ _ _ _ _ _ c.share_tries.ensures.step.calls.1 c.in-Ok.ensures.shared.calls
+    (calls_of_all c.args.options.now c.args.plan.now c.args.memory.table.done c.args.memory.table c.work-end.result.table c.requires.memory.table (g.D.Yard.Yard.serves c.in-Ok.yard)
+    (g.D.Yard.Yard.knows c.in-Ok.pass) (g.D.Yard.Yard.knows c.work-end.new.pass) c.work-end.ensures.worked c.work-end.ensures.workers)
+    c.unshare.ensures.step.calls.1
+
+pub returns-in-Err-clause-workers : goal.returns-in-Err-clause-workers
+returns-in-Err-clause-workers g c = tt
 
 pub returns-in-Err-clause-calls : goal.returns-in-Err-clause-calls
-returns-in-Err-clause-calls g c = λ one. few_tries _ _ (c.args.options.now.retries + 1) (calls_of_tasks c.args.plan.now) (omega (arith, c.share_tries.ensures.step.calls.1))
+returns-in-Err-clause-calls g c = some_calls _ _ _ _ c.share_tries.ensures.step.calls.1

@@ -1,5 +1,5 @@
-use Rattle.std.proofs.Common.{◌≡◌, ℕ, ◌<◌, List, length, ap, refl, sym, ◌∙◌, subst, rules, arith}
-use Rattle.std.specs.Prelude.{slice_index_or}
+use Rattle.std.proofs.Common.{◌≡◌, ℕ, ◌<◌, ◌≤◌, List, map, length, ap, refl, sym, ◌∙◌, subst, rules, arith, ne_eqb}
+use Rattle.std.specs.Prelude.{slice_index_or, sum_by}
 use Rattle.cu_store.specs.Yard.{Known}
 use Rattle.cu_op.specs.PlanView.{PlanView}
 use Rattle.cu_table.specs.Table.{TableView}
@@ -7,7 +7,13 @@ use Rattle.cu_lock.specs.Rule.{AllBelow, IsKnownFront}
 use Rattle.cu_board.specs.Board.{IsLegal, halted_fault}
 use Rattle.cu_board.specs.Views.{SeatAt}
 use Rattle.cu_work.specs.Alone.{IsDecided}
-use Rattle.cu_work.specs.Workers.{AreWorkersOf, AreNumbered, HaveRooms, HasWorked, front_of}
+use Rattle.cu_history.specs.declared.entry.Entry.{Entry}
+use Rattle.cu_table.specs.Step.{Settings}
+use Rattle.cu_work.specs.Starts.{IsOfWorkers, started_calls}
+use Rattle.cu_work.specs.Workers.{AreWorkersOf, AreNumbered, HaveCounted, HaveRooms, HasWorked, TookIn, front_of}
+use Rattle.cu_work.proofs.Crews.{each_at}
+use Rattle.cu_work.proofs.OwnCounts.{calls_in_all, failures_in_all}
+use Rattle.cu_work.proofs.Started.{of_several}
 use Rattle.cu_work.specs.declared.worker.Worker.{Worker}
 use Rattle.cu_work.proofs.Worked.{written_back, nobody_left, first_decides, board_worked, untouched}
 use Rattle.cu_work.proofs.together.work_at_board.Goals as goal
@@ -36,6 +42,10 @@ drive-outcome-requires-clause-numbers g c κs within = subst AreNumbered (sym c.
 pub drive-outcome-requires-clause-rooms : goal.drive-outcome-requires-clause-rooms
 drive-outcome-requires-clause-rooms g c κs within =
     subst (HaveRooms c.args.plan.now) (sym c.deref_mut.ensures.value) (c.in-Ok-hire.ensures.rooms c.args.plan.now c.requires.rooms)
+
+pub drive-outcome-requires-clause-counted : goal.drive-outcome-requires-clause-counted
+drive-outcome-requires-clause-counted g c κs within =
+    subst (HaveCounted g.Y.Yard.knows c.args.plan.now) (sym c.deref_mut.ensures.value) (c.in-Ok-hire.ensures.counted c.args.plan.now)
 
 pub dismiss-table-requires-clause-workers : goal.dismiss-table-requires-clause-workers
 dismiss-table-requires-clause-workers g c κs within =
@@ -67,11 +77,32 @@ returns-clause-worked g c =
     let resting = nobody_left g.Y.Yard.owns c.args.yard.now c.in-Ok.made.0.board ws c.drive-outcome.ensures.workers t fronts (subst (λ (k : ℕ). AllBelow k t.history) (sym (count ∙ len)) d.below)
     (λ w. c.own_law.ensures.running t.settings t.done t.history t.state w d.state.legal) in
     let owned = d.state.yard c.args.yard.now (subst (g.Y.Yard.owns c.args.yard.now) (sym ok.1) c.split-first.ensures.own.1) in
+    let plan = sym (ap (λ (x : TableView). x.settings.plan) ok.0 ∙ c.requires.plan) in
+    let below = subst (λ (k : ℕ). AllBelow k t.history) (sym (count ∙ len)) d.below in
+    let calls = calls_in_all g.Y.Yard.knows g.Y.Yard.owns c.args.yard.now c.in-Ok.made.0.board c.args.plan.now ws c.drive-outcome.ensures.workers c.drive-outcome.ensures.counted t fronts below in
+    let failures = failures_in_all g.Y.Yard.knows g.Y.Yard.owns c.args.yard.now c.in-Ok.made.0.board c.args.plan.now ws c.drive-outcome.ensures.workers c.drive-outcome.ensures.counted t fronts below in
     let one = g.Y.Yard.laws.same last c.join.new.pass (g.Y.Yard.laws.one_yard c.args.yard.now last c.join.new.pass owned c.join.ensures.own) in
     subst (λ (x : TableView × Known). HasWorked (g.Y.Yard.serves c.args.yard.now) x.0 t x.1 (g.Y.Yard.knows c.join.new.pass))
     (λ i. (ok.0 i, (c.in-Ok-hire.ensures.same ∙ c.split-first.ensures.first) i))
-    (board_worked g.Y.Yard.knows g.Y.Yard.owns c.in-Ok.made.0.table c.in-Ok.made.0.pass t last d.state (g.Y.Yard.serves c.args.yard.now) _ (g.Y.Yard.knows c.hire.new.pass)
-    (g.Y.Yard.knows c.dismiss-table.new.pass) (g.Y.Yard.knows c.join.new.pass) d.took c.join.ensures.joined one resting)
+    (board_worked g.Y.Yard.knows g.Y.Yard.owns c.in-Ok.made.0.table c.in-Ok.made.0.pass t last d.state (g.Y.Yard.serves c.args.yard.now)
+    (map (λ (w : Worker g.row.Y.Denot g.row.Y-Pass.Denot). g.Y.Yard.knows w.pass) ws) (g.Y.Yard.knows c.hire.new.pass)
+    (g.Y.Yard.knows c.dismiss-table.new.pass) (g.Y.Yard.knows c.join.new.pass)
+    (subst (λ (l : List (Worker g.row.Y.Denot g.row.Y-Pass.Denot)). TookIn (map (λ (w : Worker g.row.Y.Denot g.row.Y-Pass.Denot). g.Y.Yard.knows w.pass) l) (g.Y.Yard.knows c.hire.new.pass)
+    (g.Y.Yard.knows c.dismiss-table.new.pass)) same d.took)
+    c.join.ensures.joined one resting (ap (λ (k : Known). k.calls) (ap g.Y.Yard.knows ok.1 ∙ c.split-first.ensures.second))
+    (subst (λ (q : PlanView). sum_by (λ k. k.calls) (map (λ (w : Worker g.row.Y.Denot g.row.Y-Pass.Denot). g.Y.Yard.knows w.pass) ws) ≤ started_calls q t.history) plan calls) failures)
+
+pub returns-clause-workers : goal.returns-clause-workers
+returns-clause-workers g c =
+    let ok = c.in-Ok.ensures.ok in
+    let d = c.dismiss-table.ensures in
+    let t = c.dismiss-table.result.0 in
+    let s = d.state.same.0 ∙ ap (λ (x : TableView). x.settings) ok.0 in
+    let len : length c.in-Ok-hire.workers.items ≡ c.in-Ok-hire.workers.len = search rules in
+    let rooms = sym len ∙ c.in-Ok-hire.ensures.workers.1 in
+    subst (λ (x : Settings). IsOfWorkers c.args.rooms.len x t.history) s
+    (of_several c.args.rooms.len (ne_eqb c.args.rooms.len 1 c.requires.several) t.settings t.done t.history t.state d.state.legal
+    (λ k e low. each_at (λ (x : Entry). x.worker < c.args.rooms.len) t.history k e low (subst (λ (n : ℕ). AllBelow n t.history) rooms d.below)))
 
 pub returns-clause-decided : goal.returns-clause-decided
 returns-clause-decided g c =
@@ -107,6 +138,9 @@ returns-in-Err-hire-clause-own g c = c.hire.ensures.own
 pub returns-in-Err-hire-clause-worked : goal.returns-in-Err-hire-clause-worked
 returns-in-Err-hire-clause-worked g c = tt
 
+pub returns-in-Err-hire-clause-workers : goal.returns-in-Err-hire-clause-workers
+returns-in-Err-hire-clause-workers g c = tt
+
 pub returns-in-Err-hire-clause-decided : goal.returns-in-Err-hire-clause-decided
 returns-in-Err-hire-clause-decided g c = tt
 
@@ -115,6 +149,9 @@ returns-in-Err-clause-own g c = c.split-first.ensures.own.0
 
 pub returns-in-Err-clause-worked : goal.returns-in-Err-clause-worked
 returns-in-Err-clause-worked g c = tt
+
+pub returns-in-Err-clause-workers : goal.returns-in-Err-clause-workers
+returns-in-Err-clause-workers g c = tt
 
 pub returns-in-Err-clause-decided : goal.returns-in-Err-clause-decided
 returns-in-Err-clause-decided g c = tt

@@ -1,7 +1,7 @@
 use Rattle.std.proofs.Common.{◌≡◌, ◌<◌, ℕ, get_or, ap, sym, ◌∙◌, subst}
 use Rattle.std.proofs.lemmas.List.{get_or_read}
 use Rattle.cu_region.specs.Passes.{IsLaterIn}
-use Rattle.cu_work.specs.Workers.{IsWorkerOf, KnowsEnd}
+use Rattle.cu_work.specs.Workers.{HasCounted, IsWorkerOf, KnowsEnd}
 use Rattle.cu_work.specs.declared.worker.Worker.{Worker}
 use Rattle.cu_work.proofs.turns.drive.Goals as goal
 
@@ -43,6 +43,12 @@ pub returns-clause-ended : goal.returns-clause-ended
 returns-clause-ended g c = λ i d inside.
     let turn = (c.for_each_mut.ensures i d inside).1 in
     subst (λ (w : Worker g.row.Y.Denot g.row.Y-Pass.Denot). KnowsEnd c.args.board.now.table w.seat.view (g.Y.Yard.knows w.pass) w.outcome) turn.left turn.call.4
+
+pub returns-clause-counted : goal.returns-clause-counted
+returns-clause-counted g c = λ i d within.
+    let inside = subst (λ (n : ℕ). i < n) c.for_each_mut.auto.s within in
+    let turn = (c.for_each_mut.ensures i d inside).1 in
+    subst (λ (w : Worker g.row.Y.Denot g.row.Y-Pass.Denot). HasCounted c.args.plan.now w.seat.view (g.Y.Yard.knows w.pass)) turn.left turn.call.5
 
 pub returns-clause-answer : goal.returns-clause-answer
 returns-clause-answer g c = λ d.

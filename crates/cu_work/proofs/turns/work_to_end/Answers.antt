@@ -6,7 +6,9 @@ use Rattle.cu_table.specs.Numbers.{IsTask}
 use Rattle.cu_table.specs.Table.{start_event}
 use Rattle.cu_board.specs.Board.{IsResting, IsRunning, MayReport}
 use Rattle.cu_task.specs.Serving.{HasSeenInputs}
-use Rattle.cu_work.proofs.Turning.{same_after, runs_after, task_after, inputs_after, writes_inputs, finished_after, idle_after, broken_after, halted_after, reported_after, later_same, later_then, later_any, later_reported, own_rests, worker_after}
+use Rattle.cu_work.proofs.Turning.{same_after, runs_after, task_after, inputs_after, writes_inputs, finished_after, idle_after, broken_after, halted_after, reported_after, later_same, later_then, later_any, later_again, own_rests, worker_after}
+use Rattle.cu_work.proofs.OwnCounts.{counted_turn, counted_still}
+use Rattle.cu_work.specs.Workers.{HasCounted}
 use Rattle.cu_work.proofs.turns.work_to_end.Goals as goal
 
 pub try_in_rooms-ended-requires-clause-task : goal.try_in_rooms-ended-requires-clause-task
@@ -69,8 +71,10 @@ loop-preserved-in-Run g c =
       },
       i.3,
       c.try_in_rooms-ended.ensures.rooms ∙ i.4,
-      later_then specs first l m (later_then specs first k l (later_then specs first k0 k i.5 (later_any specs k0 k r.ensures.later)) c.try_in_rooms-ended.ensures.later)
-          (later_reported specs c.try_in_rooms-ended.result l m e.count),
+      later_again specs first l m (later_then specs first k l (later_then specs first k0 k i.5 (later_any specs k0 k r.ensures.later)) c.try_in_rooms-ended.ensures.later) e.same,
+      subst (HasCounted c.args.plan.now c.report.new.seat.view) (sym e.same)
+          (counted_turn c.args.plan.now made c.loop.worker.seat.view c.claim.new.seat.view c.report.new.seat.view r.op r.task r.copy c.try_in_rooms-ended.result (g.Y.Yard.serves c.args.yard.now) k0 k l
+          r.ensures.claimed e.reported r.ensures.count r.ensures.calls c.try_in_rooms-ended.ensures.tried i.6),
     )
 
 pub returns-in-Halted-clause-ended : goal.returns-in-Halted-clause-ended
@@ -129,7 +133,7 @@ pub returns-in-Broken-clause-ended : goal.returns-in-Broken-clause-ended
 returns-in-Broken-clause-ended g c = (broken_after c.args.board.now.table c.loop.worker.seat.view c.claim.new.seat.view c.in-Broken.op c.in-Broken.task (g.Y.Yard.knows c.claim.new.pass) c.in-Broken.ensures.claimed (own_rests c.loop.invariant.2)).1
 
 pub loop-init : goal.loop-init
-loop-init g c = (tt, tt, c.requires.worker, refl, refl, later_same (g.Y.Yard.serves c.args.yard.now).specs (g.Y.Yard.knows c.args.worker.now.pass))
+loop-init g c = (tt, tt, c.requires.worker, refl, refl, later_same (g.Y.Yard.serves c.args.yard.now).specs (g.Y.Yard.knows c.args.worker.now.pass), c.requires.counted)
 
 pub loop-preserved : goal.loop-preserved
 loop-preserved g c = (
@@ -139,4 +143,21 @@ loop-preserved g c = (
   c.loop.invariant.3,
   c.loop.invariant.4,
   later_then (g.Y.Yard.serves c.args.yard.now).specs (g.Y.Yard.knows c.args.worker.now.pass) (g.Y.Yard.knows c.loop.worker.pass) (g.Y.Yard.knows c.claim.new.pass) c.loop.invariant.5 (later_any (g.Y.Yard.serves c.args.yard.now).specs (g.Y.Yard.knows c.loop.worker.pass) (g.Y.Yard.knows c.claim.new.pass) c.in-Idle.ensures.later),
+  counted_still c.args.plan.now c.args.board.now.table c.loop.worker.seat.view c.claim.new.seat.view claim.Idle (g.Y.Yard.knows c.loop.worker.pass) (g.Y.Yard.knows c.claim.new.pass)
+      c.in-Idle.ensures.claimed c.in-Idle.ensures.claimed.answer.0 c.in-Idle.ensures.unless_run c.loop.invariant.6,
 )
+
+pub returns-in-Finished-clause-counted : goal.returns-in-Finished-clause-counted
+returns-in-Finished-clause-counted g c =
+    counted_still c.args.plan.now c.args.board.now.table c.loop.worker.seat.view c.claim.new.seat.view claim.Finished (g.Y.Yard.knows c.loop.worker.pass) (g.Y.Yard.knows c.claim.new.pass)
+    c.in-Finished.ensures.claimed c.in-Finished.ensures.claimed.answer.0 c.in-Finished.ensures.unless_run c.loop.invariant.6
+
+pub returns-in-Broken-clause-counted : goal.returns-in-Broken-clause-counted
+returns-in-Broken-clause-counted g c =
+    counted_still c.args.plan.now c.args.board.now.table c.loop.worker.seat.view c.claim.new.seat.view (claim.Broken c.in-Broken.op c.in-Broken.task) (g.Y.Yard.knows c.loop.worker.pass) (g.Y.Yard.knows c.claim.new.pass)
+    c.in-Broken.ensures.claimed c.in-Broken.ensures.claimed.answer.0 c.in-Broken.ensures.unless_run c.loop.invariant.6
+
+pub returns-in-Halted-clause-counted : goal.returns-in-Halted-clause-counted
+returns-in-Halted-clause-counted g c =
+    counted_still c.args.plan.now c.args.board.now.table c.loop.worker.seat.view c.claim.new.seat.view (claim.Halted c.in-Halted.fault) (g.Y.Yard.knows c.loop.worker.pass) (g.Y.Yard.knows c.claim.new.pass)
+    c.in-Halted.ensures.claimed c.in-Halted.ensures.claimed.answer.0 c.in-Halted.ensures.unless_run c.loop.invariant.6
