@@ -189,7 +189,7 @@ module _ (c : RunCase) (job : Job) (accepted : IsAccepted c job) (planned : HasP
   pub begin_asked_within : (fault : WayFault) → WithinCalls (begin_limits c.options c.text job).asked c.old.depot c.new.depot → BeginWithin c (answer_of fault)
   begin_asked_within (way.Held key) calls = inr (job, accepted, (planned, calls))
   begin_asked_within (way.Failed key) calls = inr (job, accepted, (planned, omega (arith, calls)))
-  begin_asked_within way.NoMemory calls = inr (job, accepted, (planned, λ alone. omega (arith, calls)))
+  begin_asked_within way.NoMemory calls = inr (job, accepted, (planned, omega (arith, calls)))
 
   -- the texts were stored, or were to be
   module _ (mid : Shown) (first : WithinCalls (begin_limits c.options c.text job).asked c.old.depot mid) (second : WithinCalls (2 * (c.options.retries + 1)) mid c.new.depot) where
@@ -197,14 +197,14 @@ module _ (c : RunCase) (job : Job) (accepted : IsAccepted c job) (planned : HasP
     all_begun = omega (arith, first, second)
 
     pub begun_done_within : BeginWithin c Done
-    begun_done_within = inr (job, accepted, (planned, λ alone. all_begun))
+    begun_done_within = inr (job, accepted, (planned, all_begun))
 
     pub begun_unprinted_within : BeginWithin c WriteFault
-    begun_unprinted_within = inr (job, accepted, (planned, λ alone. all_begun))
+    begun_unprinted_within = inr (job, accepted, (planned, all_begun))
 
     pub begun_ended_within : (s : Status) → IsTextsAnswer s → BeginWithin c s
     begun_ended_within (DepotFailed key) is = inr (job, accepted, (planned, all_begun))
-    begun_ended_within NoMemory is = inr (job, accepted, (planned, λ alone. all_begun))
+    begun_ended_within NoMemory is = inr (job, accepted, (planned, all_begun))
     begun_ended_within s is = absurd is
 
 -- ---- what was printed

@@ -8,12 +8,12 @@ use Rattle.cu_command.specs.declared.status.Status.TheVariants.{Done, Exists, Wr
 use Rattle.cu_demo.specs.Expression.{IsDemoJob}
 use Rattle.cu_demo.specs.declared.input.DemoInput.TheVariants.{Rows, Columns}
 use Rattle.cu_load.specs.Load.{chunks_in}
-use Rattle.cu_work.specs.Calls.{calls_of_tasks}
 use Rattle.cu_work.specs.declared.run.HeldTexts.TheVariants.{Neither}
 use Rattle.cu_top.proofs.CallLimits.{begun_then, begun_within}
 use Rattle.cu_top.specs.Calls.{BegunWithin, DemosWithin, DriveWithin, demo_limits}
 use Rattle.cu_top.specs.Demo.{DemoCase, IsDemoRefused, IsDemoAskEnd, IsInputsFault, ResultTells, demo_array}
-use Rattle.cu_top.specs.Prepare.{job_plan, asked_keys}
+use Rattle.cu_top.specs.Limits.{task_calls}
+use Rattle.cu_top.specs.Prepare.{asked_keys}
 
 module _ (c : DemoCase) where
   -- there is no plan
@@ -32,40 +32,40 @@ module _ (c : DemoCase) where
     pub demo_asked : (s : Status) → IsDemoAskEnd (c.options.retries + 1) (asked_keys c.options job) c.old.depot c.new.depot s → WithinCalls asking c.old.depot c.new.depot → DemosWithin c s
     demo_asked (Exists key) why calls = inr (job, is, calls)
     demo_asked (DepotFailed key) why calls = (job, is, inl (omega (arith, calls)))
-    demo_asked NoMemory why calls = inr (job, is, λ alone. omega (arith, calls))
+    demo_asked NoMemory why calls = inr (job, is, omega (arith, calls))
     demo_asked status why calls = absurd why
 
     -- memory was wanted for the texts
     pub demo_unready : WithinCalls asking c.old.depot c.new.depot → DemosWithin c NoMemory
-    demo_unready calls = inr (job, is, λ alone. omega (arith, calls))
+    demo_unready calls = inr (job, is, omega (arith, calls))
 
     module _ (mid : Shown) (asked : WithinCalls asking c.old.depot mid) where
       pub demo_unstored : (s : Status) → (before : Shown) → IsInputsFault (c.options.retries + 1) c.size before c.new.depot s → WithinCalls storing mid c.new.depot → DemosWithin c s
       demo_unstored (DepotFailed key) before why calls = (job, is, inl (omega (arith, asked, calls)))
-      demo_unstored NoMemory before why calls = inr (job, is, λ alone. omega (arith, asked, calls))
+      demo_unstored NoMemory before why calls = inr (job, is, omega (arith, asked, calls))
       demo_unstored status before why calls = absurd why
 
       module _ (start : Shown) (stored : WithinCalls storing mid start) where
         -- the tasks were run, or were to be, and not all are done
         begun_so : (s : Status) → DriveWithin c.options job Neither start c.new.depot s
-            → BegunWithin c.options.workers (demo_limits c.options c.size job).begun (demo_limits c.options c.size job).all c.old.depot c.new.depot s
+            → BegunWithin (demo_limits c.options c.size job).begun (demo_limits c.options c.size job).all c.old.depot c.new.depot s
         begun_so s calls =
             let tries = c.options.retries + 1 in
             let both : WithinCalls (asking + storing) c.old.depot start = omega (arith, asked, stored) in
-            begun_then c.options.workers (asking + storing) ((2 + 1) * tries) ((2 + 1 + calls_of_tasks (job_plan c.options job)) * tries)
+            begun_then (asking + storing) ((2 + 1) * tries) ((2 + 1) * tries + task_calls c.options job)
             (demo_limits c.options c.size job).begun (demo_limits c.options c.size job).all c.old.depot start c.new.depot both (omega arith) (omega arith) s calls
 
         pub demo_stopped : (s : Status) → DriveWithin c.options job Neither start c.new.depot s → DemosWithin c s
         demo_stopped (DepotFailed key) calls = (job, is, inl (begun_so (DepotFailed key) calls))
-        demo_stopped status calls = inr (job, is, begun_within c.options.workers (demo_limits c.options c.size job) c.old.depot c.new.depot status (begun_so status calls))
+        demo_stopped status calls = inr (job, is, begun_within (demo_limits c.options c.size job) c.old.depot c.new.depot status (begun_so status calls))
 
         -- the result was read, or was to be
         pub demo_told : (ran : Shown) → DriveWithin c.options job Neither start ran Done → WithinCalls (c.options.retries + 1) ran c.new.depot
             → (text : ℤ → List ℕ) (before : Seen) (s : Status) → ResultTells (c.options.retries + 1) text before c.new s → DemosWithin c s
         demo_told ran run read text before s tells = told s tells
           where
-            all : c.options.workers ≡ 1 → WithinCalls (demo_limits c.options c.size job).all c.old.depot c.new.depot
-            all alone = let few = run alone in omega (arith, asked, stored, few, read)
+            all : WithinCalls (demo_limits c.options c.size job).all c.old.depot c.new.depot
+            all = omega (arith, asked, stored, run, read)
 
             told : (s : Status) → ResultTells (c.options.retries + 1) text before c.new s → DemosWithin c s
             told Done tells = inr (job, is, all)

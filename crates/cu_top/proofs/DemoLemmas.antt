@@ -154,7 +154,7 @@ module _ (options : Options) (job : Job) (found ran new : Shown) (step : Stepped
   counted_later n ((history, m, h, fact), least, exact, most, few) =
       let rose = h.rose in
       let more = step.step.count in
-      ((history, m, record { legal = h.legal; resting = h.resting; rose = omega (arith, rose, more) }, fact), least, exact, most, few)
+      ((history, m, record { legal = h.legal; resting = h.resting; workers = h.workers; rose = omega (arith, rose, more) }, fact), least, exact, most, few)
 
 -- ---- the result
 

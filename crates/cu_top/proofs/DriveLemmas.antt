@@ -28,6 +28,7 @@ use Rattle.cu_work.proofs.Running.{left_stored}
 use Rattle.cu_work.specs.Drive.{IsBadChunk, IsInputKey}
 use Rattle.cu_work.specs.Run.{AreTextsHeld, HoldsTexts, IsMissingKey, IsRunFault, PutOfMissing, run_of as work_run, IsRecordFirst as IsTextFirst, IsUnstored as IsTextUnstored}
 use Rattle.cu_work.specs.Shared.{IsOpen, IsOpenAs, HoldsDone, HasDriven, AreCounted, opened_table, IfBadChunk, IfComplete, IfLacked}
+use Rattle.cu_work.specs.Starts.{IsOfWorkers}
 use Rattle.cu_work.specs.declared.options.RunOptions.{RunOptions}
 use Rattle.cu_work.specs.declared.outcome.Outcome.{Outcome}
 use Rattle.cu_work.specs.declared.outcome.Outcome.TheVariants as ended
@@ -166,6 +167,7 @@ module _ (c : RunCase) (job : Job) (laws : PlanLaws c job) (start : Shown) (spar
       history_of = record {
         legal = legal_of;
         resting = ends.driven.resting;
+        workers = ends.workers;
         rose = rose_since (count_kind is_failed t.history) ends.driven.rose;
       }
 
@@ -232,6 +234,7 @@ pub record RunTold (how : RunOptions) (table : TableView) (t : Texts) (d : Drive
   pub refused : OnErr result (Steps (PutOfMissing d.held t) 0 (3 * (how.retries + 1)) d.shown.0 d.shown.1)
   pub cause : IfErr result (IsRunFault d.held (how.retries + 1) t d.shown.0 d.shown.1)
   pub driven : IfOk result (λ e. HasDriven table e.table d.shown.0 d.shown.1 e.outcome)
+  pub workers : IfOk result (λ e. IsOfWorkers how.workers table.settings e.table.history)
   pub counts : IfOk result (λ e. IfComplete e.outcome (AreCounted table e.table))
   pub done : (env : Elements) → IsLeft d.run env d.shown.0 → IfOk result (λ e. HoldsDone d.run env e.table.state d.shown.1)
   pub complete : (env : Elements) → IsLeft d.run env d.shown.0 → IfOk result (λ e. IfComplete e.outcome (IsComplete d.run env d.shown.1))
@@ -250,6 +253,7 @@ module _ (o : Options) (p : PlanView) (t : Texts) (held : HeldTexts) (done : Lis
       → IfOk result (λ e. HasEnded (drive_case o (work_run p t) held done lack shown) e.outcome e.table)
   ended_told (Ok e) told = record {
     driven = told.driven;
+    workers = told.workers;
     counts = told.counts;
     texts = told.texts;
     done = told.done;

@@ -96,7 +96,7 @@ begin_limits o given job =
     }
 
 abbrev pub BeginWithin : RunCase → Status → Type 0
-BeginWithin c status = TextWithin 1 (begin_limits c.options c.text) c status
+BeginWithin c status = TextWithin (begin_limits c.options c.text) c status
 
 -- the same of the text that was read; where none was, no call was made
 abbrev pub BeginsWithin : Options → Scene → Scene → Status → Type 0

@@ -14,6 +14,7 @@ use Rattle.cu_table.specs.Table.{TableView}
 use Rattle.cu_work.specs.Drive.{IsBadChunk, IsInputKey}
 use Rattle.cu_work.specs.Run.{IsRecordFirst, IsUnstored, HoldsTexts}
 use Rattle.cu_work.specs.Shared.{opened_table, HasDriven, HoldsDone, AreCounted, IfBadChunk, IfComplete, IfLacked}
+use Rattle.cu_work.specs.Starts.{IsOfWorkers}
 use Rattle.cu_work.specs.declared.options.RunOptions.{RunOptions}
 use Rattle.cu_work.specs.declared.outcome.Outcome.{Outcome}
 use Rattle.cu_work.specs.declared.outcome.Outcome.TheVariants as ended
@@ -100,6 +101,7 @@ table_of d = opened_table d.run.plan (run_options d.options) d.done
 -- The tasks were run, and ended so, with this table.
 pub record HasEnded (d : DriveCase) (o : Outcome) (t : TableView) : Type 0 where
   pub driven : HasDriven (table_of d) t d.shown.0 d.shown.1 o
+  pub workers : IsOfWorkers d.options.workers (table_of d).settings t.history
   pub counts : IfComplete o (AreCounted (table_of d) t)
   pub texts : (env : Elements) → IsLeft d.run env d.shown.0 → HoldsTexts d.run env d.shown.1
   pub done : (env : Elements) → IsLeft d.run env d.shown.0 → HoldsDone d.run env t.state d.shown.1

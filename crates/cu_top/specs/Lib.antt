@@ -10,6 +10,7 @@ pub mod Driven
 pub mod Drop
 pub mod Held
 pub mod Laws
+pub mod Limits
 pub mod Parts
 pub mod Planned
 pub mod Prepare

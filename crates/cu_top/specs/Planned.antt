@@ -1,8 +1,7 @@
 -- What planning the expression of a text answers, and what it leaves: it stores nothing. This project's own rules.
-use Rattle.std.specs.Prelude.{ℕ, ◌*◌, ◌≤◌, ◌⊎◌, List, length}
+use Rattle.std.specs.Prelude.{ℕ, ◌≤◌, ◌⊎◌, List, length}
 use Rattle.cu_store.specs.Faults.{Rose}
 use Rattle.cu_store.specs.Steps.{Shown}
-use Rattle.cu_command.specs.Job.{names_said}
 use Rattle.cu_command.specs.Seen.{Stream, WithinCalls}
 use Rattle.cu_command.specs.Streams.{ReadsAll}
 use Rattle.cu_command.specs.declared.job.JobFault.TheVariants as fault
@@ -11,6 +10,7 @@ use Rattle.cu_command.specs.declared.status.Status.TheVariants.{Done, ReadFault,
 use Rattle.cu_lower.specs.declared.options.Options.{Options}
 use Rattle.cu_plan.specs.Text.{plan_text}
 use Rattle.cu_top.specs.Call.{AreSpared, CameToRun, IsReadFault}
+pub use Rattle.cu_top.specs.Limits.{plan_calls}
 use Rattle.cu_top.specs.Run.{Scene, RunCase, plan_in, HasNoJob, IsSpared, WasRefused, OfPlanned, WroteTo}
 
 -- why a text has no plan, and nothing was stored: all calls for the metadata of an input in its turn failed, memory was wanted, or the text,
@@ -44,11 +44,7 @@ PlanTells options old new ReadFault = IsReadFault old new
 PlanTells options old new NoMemory = AreSpared old new
 PlanTells options old new status = CameToRun options old new (λ c. Plans c status)
 
--- how many calls planning a text may make: for two keys of metadata of each input, so many for each
-abbrev pub plan_calls : ℕ → List ℕ → ℕ
-plan_calls tries text = 2 * tries * length (names_said text)
-
--- the same of the text that was read; where none was, no call was made
+-- the calls of planning the text that was read; where none was, no call was made
 abbrev pub PlansWithin : ℕ → Stream → Stream → Shown → Shown → Type 0
 PlansWithin tries src next old new =
     WithinCalls 0 old new ⊎ ((text : List ℕ) × ReadsAll src.told next.told text × WithinCalls (plan_calls tries text) old new)

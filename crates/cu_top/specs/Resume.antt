@@ -33,6 +33,7 @@ use Rattle.cu_top.specs.Absent.{absent_tasks}
 use Rattle.cu_top.specs.Call.{AreSpared, CameToRun, IsReadFault}
 use Rattle.cu_top.specs.Driven.{run_counts_in}
 use Rattle.cu_top.specs.Held.{IsNotReopened, IsReopened, IsUnasked, WasUnrecorded, WhereEntryTold}
+use Rattle.cu_top.specs.Limits.{WithinStarts, resume_limits}
 use Rattle.cu_top.specs.Prepare.{keys_of, out_metadata}
 use Rattle.cu_top.specs.Report.{report_line}
 use Rattle.cu_top.specs.Run.{Scene, RunCase, plan_in, job_run, HasBroken, HoldsAll, IsHistory, IsSpared, OfPlanned, WroteTo}
@@ -127,9 +128,12 @@ IsCountedOn c job n = WentOn c job (λ done history m. AllDone (plan_in c job) m
     × (n.starts ≤ (c.options.retries + 2) * task_count (plan_in c job))
     × ((entry : Contents) → c.old.depot.held ≡ Some entry → AreOfAbsent c job entry n)
 
--- the same, with a fact of the line that reports it
+-- the same, with a fact of the line that reports it; the calls of the tasks are those of the starts
+-- that it has, at most
 abbrev pub CountedOn : RunCase → Job → (List ℕ → Type 0) → Type 0
-CountedOn c job fact = (n : RunCounts) × IsCountedOn c job n × fact (report_line (plan_in c job) n)
+CountedOn c job fact = (n : RunCounts) × IsCountedOn c job n
+    × WithinStarts (resume_limits c.options c.text job).begun (plan_in c job) n c.old.depot c.new.depot
+    × fact (report_line (plan_in c job) n)
 
 -- ---- the answers
 

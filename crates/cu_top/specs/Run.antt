@@ -30,6 +30,7 @@ use Rattle.cu_work.specs.Drive.{IsBadChunk, IsInputKey}
 use Rattle.cu_work.specs.Order.{IsFree}
 use Rattle.cu_work.specs.Run.{HoldsTexts}
 use Rattle.cu_work.specs.Shared.{none_done, HoldsDone}
+use Rattle.cu_work.specs.Starts.{IsOfWorkers}
 use Rattle.cu_command.specs.Job.{IsJob, IsJobFault}
 use Rattle.cu_command.specs.Seen.{Seen, Stream, Stepped, seen}
 use Rattle.cu_command.specs.Streams.{WroteFront}
@@ -39,6 +40,7 @@ use Rattle.cu_command.specs.declared.job.JobFault.TheVariants as fault
 use Rattle.cu_command.specs.declared.status.Status.{Status}
 use Rattle.cu_command.specs.declared.status.Status.TheVariants.{Done, BadExpr, BadType, OverMemory, OverLimit, BadMeta, NoArray, Exists, TaskFailed, WriteFault, BadChunk, DepotFailed, NoMemory}
 use Rattle.cu_top.specs.Ask.{IsFirstOf, IsInWay, IsOwnFirst}
+use Rattle.cu_top.specs.Limits.{WithinStarts, run_limits}
 use Rattle.cu_top.specs.Prepare.{job_plan, asked_keys, out_layout, out_metadata, HasPlan, IsUnplanned, HasNoOwnInput, IsLentWithin}
 use Rattle.cu_top.specs.Record.{record_text}
 use Rattle.cu_top.specs.Quiet.{run_of_job}
@@ -164,11 +166,13 @@ HoldsAll c job = WhereLeft c job (λ env. IsComplete (job_run c job) env c.new.d
 abbrev pub settings_of : RunCase → Job → Settings
 settings_of c job = record { plan = plan_in c job; retries = c.options.retries; backups = c.options.backups }
 
--- Workers ran tasks: from a state in which these were done, by a legal history, to one in which no copy runs. The count of the depot's
--- faults rose by each failure of the history at least.
+-- Workers whose numbers are below `--workers` ran tasks: from a state in which these were done, by a legal history, to one in which no
+-- copy runs. No task was started more often than it is tried, and by several workers with second copies once more. The count of the
+-- depot's faults rose by each failure of the history at least.
 pub record IsHistory (c : RunCase) (job : Job) (done : List Bool) (history : List Entry) (m : Machine) : Type 0 where
   pub legal : Replays (settings_of c job) done history m
   pub resting : m.copies ≡ []
+  pub workers : IsOfWorkers c.options.workers (settings_of c job) history
   pub rose : Rose (count_kind is_failed history) c.old.depot.faults c.new.depot.faults
 
 -- such a history from a state in which none was done, and the state that it left, with a fact of both
@@ -183,9 +187,10 @@ IsCounted c job n = WasRun c job (λ history m. AllDone (plan_in c job) m × (n.
     × (task_count (plan_in c job) + n.failures ≤ n.starts) × (c.options.backups ≡ false → n.starts ≡ task_count (plan_in c job) + n.failures)
     × (n.failures ≤ c.options.retries * task_count (plan_in c job)) × (n.starts ≤ (c.options.retries + 2) * task_count (plan_in c job))
 
--- the same, with a fact of the line that reports it
+-- the same, with a fact of the line that reports it; the calls of the tasks are those of the starts that it has, at most
 abbrev pub Counted : RunCase → Job → (List ℕ → Type 0) → Type 0
-Counted c job fact = (n : RunCounts) × IsCounted c job n × fact (report_line (plan_in c job) n)
+Counted c job fact = (n : RunCounts) × IsCounted c job n × WithinStarts (run_limits c.options c.text job).begun (plan_in c job) n c.old.depot c.new.depot
+    × fact (report_line (plan_in c job) n)
 
 -- the first n bytes of the line were written
 abbrev pub WroteTo : RunCase → List ℕ → ℕ → Type 0

@@ -1,13 +1,15 @@
 //! The tasks of an accepted plan: the texts in front of its chunks, their run, and what it answers.
-ghost use Rattle.std.specs.Prelude.{◌≡◌, ◌<◌, IfErr, IfOk, Some};
+ghost use Rattle.std.specs.Prelude.{◌≡◌, ◌+◌, ◌*◌, ◌<◌, IfErr, IfOk, Some};
 ghost use Rattle.cu_store.specs.Held.{Contents};
 ghost use Rattle.cu_run_law.specs.Pieces.{KeysApart, InputsApart};
+ghost use Rattle.cu_work.specs.Calls.{missing_texts};
 ghost use Rattle.cu_work.specs.Shared.{IsOpen, IsMemoryFor};
 ghost use Rattle.cu_work.specs.World.{IsFound};
 ghost use Rattle.cu_command.specs.declared.status.Status.TheVariants.{Done};
 ghost use Rattle.cu_top.specs.Calls.{DriveWithin};
 ghost use Rattle.cu_top.specs.Driven.{AreHeld, HasPlanAndTexts, WasDriven, drive_answer};
 ghost use Rattle.cu_top.specs.Driven.{drive_case, fault_answer, outcome_answer, run_options};
+ghost use Rattle.cu_top.specs.Limits.{WithinStarts};
 ghost use Rattle.cu_top.specs.Prepare.{job_plan, HasPlan};
 ghost use Rattle.cu_top.specs.Quiet.{run_of_job};
 
@@ -137,6 +139,8 @@ pub fn drive_plan<H: Threads + Wait + Sync, D: Share, G: Gate>(
         memory.table.done (D.yards_lack depot.new) (D.shown depot.old, D.shown depot.new)) result }
     ensures calls { IfOk result (λ counts. DriveWithin options.now ready.now.job held
         (D.shown depot.old) (D.shown depot.new) Done) }
+    ensures starts { IfOk result (λ counts. WithinStarts ((missing_texts held + 1) * (options.now.retries + 1))
+        (job_plan options.now ready.now.job) counts (D.shown depot.old) (D.shown depot.new)) }
     ensures stopped_calls { IfErr result (DriveWithin options.now ready.now.job held
         (D.shown depot.old) (D.shown depot.new)) }
 {

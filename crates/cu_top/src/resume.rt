@@ -12,6 +12,7 @@ ghost use Rattle.cu_store.specs.Steps.{NoChange, Shown};
 ghost use Rattle.cu_top.specs.Calls.{GoneOnWithin, ResumeWithin};
 ghost use Rattle.cu_top.specs.Driven.{AreHeld, HasPlanAndTexts, run_options};
 ghost use Rattle.cu_top.specs.Held.{IsFoundAgain, IsLeftEntry};
+ghost use Rattle.cu_top.specs.Limits.{WithinStarts};
 ghost use Rattle.cu_top.specs.Prepare.{job_plan, keys_of};
 ghost use Rattle.cu_top.specs.Quiet.{run_of_job};
 ghost use Rattle.cu_top.specs.Resume.{HasRecord, IsRestFault, ResumeEnded, WasResumed, find_answer};
@@ -114,6 +115,8 @@ fn go_on<H: Threads + Wait + Sync, D: Share, G: Gate>(
         (scene next after (D.shown depot.new))) ready.now.job result }
     ensures calls { IfOk result (λ counts. GoneOnWithin options.now ready.now.job
         (D.shown depot.old) (D.shown depot.new) Done) }
+    ensures starts { IfOk result (λ counts. WithinStarts ((length (keys_of options.now ready.now.job) + 1) * (options.now.retries + 1))
+        (job_plan options.now ready.now.job) counts (D.shown depot.old) (D.shown depot.new)) }
     ensures stopped_calls { IfErr result (GoneOnWithin options.now ready.now.job
         (D.shown depot.old) (D.shown depot.new)) }
 {

@@ -1,12 +1,13 @@
 //! A run: what is stored, once the job was accepted and nothing is in the way.
-ghost use Rattle.std.specs.Prelude.{ℕ, List, IfErr, IfOk};
+ghost use Rattle.std.specs.Prelude.{ℕ, ◌+◌, ◌*◌, List, IfErr, IfOk};
 ghost use Rattle.cu_store.specs.Steps.{Shown};
 ghost use Rattle.cu_command.specs.Seen.{Stream, stream};
 ghost use Rattle.cu_command.specs.declared.status.Status.TheVariants.{Done};
 ghost use Rattle.cu_work.specs.declared.run.HeldTexts.TheVariants.{Neither};
 ghost use Rattle.cu_top.specs.Calls.{DriveWithin, RunWithin};
 ghost use Rattle.cu_top.specs.Driven.{HasPlanAndTexts};
-ghost use Rattle.cu_top.specs.Prepare.{HasPlan};
+ghost use Rattle.cu_top.specs.Limits.{WithinStarts};
+ghost use Rattle.cu_top.specs.Prepare.{job_plan, HasPlan};
 ghost use Rattle.cu_top.specs.Quiet.{IsCalm};
 ghost use Rattle.cu_top.specs.Run.{scene, case, Ran, PrintsOnly, IsCleared, IsStop, Ended};
 ghost use Rattle.cu_top.specs.Words.{IsInRange};
@@ -47,6 +48,8 @@ pub fn store_plan<H: Threads + Wait + Sync, D: Share, G: Gate>(
     ensures stopped { IfErr result IsStop }
     ensures calls { IfOk result (λ counts. DriveWithin options.now ready.now.job Neither
         (D.shown depot.old) (D.shown depot.new) Done) }
+    ensures starts { IfOk result (λ counts. WithinStarts (3 * (options.now.retries + 1))
+        (job_plan options.now ready.now.job) counts (D.shown depot.old) (D.shown depot.new)) }
     ensures stopped_calls { IfErr result (DriveWithin options.now ready.now.job Neither
         (D.shown depot.old) (D.shown depot.new)) }
 {

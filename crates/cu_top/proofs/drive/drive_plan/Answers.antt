@@ -7,7 +7,7 @@ use Rattle.cu_work.specs.Run.{run_of as work_run}
 use Rattle.cu_work.specs.Shared.{IsOpen, opened_table}
 use Rattle.cu_work.specs.declared.options.RunOptions.{RunOptions}
 use Rattle.cu_work.specs.declared.run.Texts.{Texts}
-use Rattle.cu_top.proofs.DriveCalls.{RunMakes, any_ok, drive_all, drive_stopped}
+use Rattle.cu_top.proofs.DriveCalls.{RunMakes, any_ok, drive_all, drive_starts, drive_stopped}
 use Rattle.cu_top.proofs.DriveLemmas.{RunTold, all_told, same_run, texts_held}
 use Rattle.cu_top.specs.Driven.{AreHeld, WasDriven, drive_case, run_options}
 use Rattle.cu_top.proofs.drive.drive_plan.Goals as goal
@@ -72,6 +72,7 @@ returns-clause-driven g c =
       refused = c.run_plan-ended.ensures.refused;
       cause = c.run_plan-ended.ensures.cause;
       driven = c.run_plan-ended.ensures.driven;
+      workers = c.run_plan-ended.ensures.workers;
       counts = c.run_plan-ended.ensures.counts;
       done = c.run_plan-ended.ensures.done;
       complete = c.run_plan-ended.ensures.complete;
@@ -91,7 +92,7 @@ returns-clause-calls g c =
     let p = c.args.ready.now.plan in
     let old = g.D.Depot.shown c.args.depot.now in
     let new = g.D.Depot.shown c.run_plan-ended.new.depot in
-    let made : RunMakes c.run_options-how.result p c.args.held old new c.run_plan-ended.result = record { begun = c.run_plan-ended.ensures.begun; all = c.run_plan-ended.ensures.calls } in
+    let made : RunMakes c.run_options-how.result p c.args.held old new c.run_plan-ended.result = record { begun = c.run_plan-ended.ensures.begun; all = c.run_plan-ended.ensures.calls; starts = c.run_plan-ended.ensures.tries } in
     any_ok c.drive_answer.result _ (drive_all o job c.args.held old new c.run_options-how.result p c.run_plan-ended.result c.run_options-how.ensures c.requires.ready.plan_is made)
 
 pub returns-clause-stopped_calls : goal.returns-clause-stopped_calls
@@ -101,5 +102,15 @@ returns-clause-stopped_calls g c =
     let p = c.args.ready.now.plan in
     let old = g.D.Depot.shown c.args.depot.now in
     let new = g.D.Depot.shown c.run_plan-ended.new.depot in
-    let made : RunMakes c.run_options-how.result p c.args.held old new c.run_plan-ended.result = record { begun = c.run_plan-ended.ensures.begun; all = c.run_plan-ended.ensures.calls } in
+    let made : RunMakes c.run_options-how.result p c.args.held old new c.run_plan-ended.result = record { begun = c.run_plan-ended.ensures.begun; all = c.run_plan-ended.ensures.calls; starts = c.run_plan-ended.ensures.tries } in
     drive_stopped o job c.args.held old new c.run_options-how.result p _ c.run_plan-ended.result c.drive_answer.result c.run_options-how.ensures c.requires.ready.plan_is c.drive_answer.ensures made
+
+pub returns-clause-starts : goal.returns-clause-starts
+returns-clause-starts g c =
+    let o = c.args.options.now in
+    let job = c.args.ready.now.job in
+    let p = c.args.ready.now.plan in
+    let old = g.D.Depot.shown c.args.depot.now in
+    let new = g.D.Depot.shown c.run_plan-ended.new.depot in
+    let made : RunMakes c.run_options-how.result p c.args.held old new c.run_plan-ended.result = record { begun = c.run_plan-ended.ensures.begun; all = c.run_plan-ended.ensures.calls; starts = c.run_plan-ended.ensures.tries } in
+    drive_starts o job c.args.held old new c.run_options-how.result p _ c.run_plan-ended.result c.drive_answer.result c.run_options-how.ensures c.requires.ready.plan_is c.drive_answer.ensures made

@@ -5,7 +5,7 @@ use Rattle.cu_command.proofs.SeenLemmas.{stepped_then}
 use Rattle.cu_top.proofs.DriveLemmas.{PlanLaws, HistoryLaws, apart_run, apart_inputs, open_start}
 use Rattle.cu_command.specs.declared.status.Status.TheVariants.{Done}
 use Rattle.cu_load.proofs.AskLemmas.{if_err}
-use Rattle.cu_top.proofs.CallLimits.{if_ok, rest_driven, rest_stopped}
+use Rattle.cu_top.proofs.CallLimits.{if_ok, rest_driven, rest_starts, rest_stopped}
 use Rattle.cu_top.proofs.PlanLemmas.{meant}
 use Rattle.cu_top.proofs.ReopenLemmas.{ResumeLaws, opens, reopened, record_in, rest_refused, resume_ended, names_later}
 use Rattle.cu_top.specs.Prepare.{keys_of, out_metadata}
@@ -40,6 +40,7 @@ returns-in-Err g c = record {
       rest_refused run job (g.D.Share.yards_lack c.find_rest.new.depot) (g.D.Depot.shown c.args.depot.now) c.in-Err.status
       (reopened run job (g.D.Depot.shown c.args.depot.now) found laws) found.spared c.find_rest.ensures.step c.in-Err.ensures.fault;
   calls = tt;
+  starts = tt;
   stopped_calls = rest_stopped c.args.options.now c.args.ready.now.job c.args.ready.now.plan (keys_of c.args.options.now c.args.ready.now.job) (g.D.Depot.shown c.args.depot.now)
       (g.D.Depot.shown c.find_rest.new.depot) c.requires.ready.plan_is c.find_rest.ensures.calls c.in-Err.status c.in-Err.ensures.fault;
 }
@@ -153,6 +154,9 @@ returns g c = record {
   calls = if_ok c.drive_plan.result
       (λ counts. rest_driven c.args.options.now c.args.ready.now.job c.args.ready.now.plan (g.D.Depot.shown c.args.depot.now) (g.D.Depot.shown c.find_rest.new.depot) (g.D.Depot.shown c.drive_plan.new.depot)
       c.requires.ready.plan_is c.find_rest.ensures.calls c.in-Ok.rest.held c.in-Ok.ensures.has Done) c.drive_plan.ensures.calls;
+  starts = if_ok c.drive_plan.result
+      (λ counts. rest_starts c.args.options.now c.args.ready.now.job c.args.ready.now.plan counts (g.D.Depot.shown c.args.depot.now) (g.D.Depot.shown c.find_rest.new.depot)
+      (g.D.Depot.shown c.drive_plan.new.depot) c.requires.ready.plan_is c.find_rest.ensures.calls c.in-Ok.rest.held c.in-Ok.ensures.has) c.drive_plan.ensures.starts;
   stopped_calls = if_err c.drive_plan.result
       (rest_driven c.args.options.now c.args.ready.now.job c.args.ready.now.plan (g.D.Depot.shown c.args.depot.now) (g.D.Depot.shown c.find_rest.new.depot) (g.D.Depot.shown c.drive_plan.new.depot)
       c.requires.ready.plan_is c.find_rest.ensures.calls c.in-Ok.rest.held c.in-Ok.ensures.has) c.drive_plan.ensures.stopped_calls;

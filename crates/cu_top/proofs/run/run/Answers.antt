@@ -1,4 +1,4 @@
-use Rattle.std.proofs.Common.{ℕ, ◌≤◌, length, subst, sym}
+use Rattle.std.proofs.Common.{ℕ, ◌+◌, ◌*◌, ◌≤◌, length, subst, sym, arith}
 use Rattle.cu_command.specs.Seen.{stream}
 use Rattle.cu_command.specs.Streams.{WroteFront}
 use Rattle.cu_command.specs.declared.job.Job.{Job}
@@ -8,8 +8,9 @@ use Rattle.cu_top.specs.Report.{report_line}
 use Rattle.cu_top.specs.Run.{scene, case, IsCleared}
 use Rattle.cu_command.specs.Seen.{WithinCalls}
 use Rattle.cu_command.specs.declared.status.Status.TheVariants.{Done, WriteFault}
-use Rattle.cu_top.proofs.CallLimits.{asked_within, run_within}
+use Rattle.cu_top.proofs.CallLimits.{asked_within, run_within, starts_then}
 use Rattle.cu_top.specs.Calls.{run_limits}
+use Rattle.cu_top.specs.Prepare.{job_plan}
 use Rattle.cu_work.specs.declared.way.WayFault.TheVariants as way
 use Rattle.cu_top.proofs.run.run.Goals as goal
 
@@ -35,6 +36,10 @@ returns-in-Ok-report-clause-answer g c = λ source next.
     let cleared = subst (λ (j : Job). IsCleared c.args.options.now c.args.text.now start (g.D.Depot.shown c.prepare.new.depot) j) (sym c.in-Ok-make_ready.ensures.job) c.in-Ok.ensures.cleared in
     run_done (g.D.Share.yards_lack c.store_plan.new.depot) (case c.args.options.now c.args.text.now (scene source out start) (scene next after now)) job counts
     (c.in-Ok-store_plan.ensures.ended c.args.text.now start source next out after cleared)
+    (starts_then (run_limits c.args.options.now c.args.text.now job).asked (3 * (c.args.options.now.retries + 1)) (run_limits c.args.options.now c.args.text.now job).begun
+    (job_plan c.args.options.now job) counts start (g.D.Depot.shown c.prepare.new.depot) now
+    (subst (λ (j : Job). WithinCalls (run_limits c.args.options.now c.args.text.now j).asked start (g.D.Depot.shown c.prepare.new.depot)) (sym c.in-Ok-make_ready.ensures.job) c.in-Ok.ensures.calls)
+    (omega arith) c.in-Ok-store_plan.ensures.starts)
     (subst (λ (p : PlanView). WroteFront out.told after.told (report_line p counts) (length (report_line p counts))) c.in-Ok-make_ready.ensures.ready.plan_is c.in-Ok-report.ensures.all)
 
 pub returns-in-Ok-store_plan-clause-answer : goal.returns-in-Ok-store_plan-clause-answer
@@ -47,7 +52,11 @@ returns-in-Ok-store_plan-clause-answer g c = λ source next.
     let counts = c.in-Ok-store_plan.counts in
     let cleared = subst (λ (j : Job). IsCleared c.args.options.now c.args.text.now start (g.D.Depot.shown c.prepare.new.depot) j) (sym c.in-Ok-make_ready.ensures.job) c.in-Ok.ensures.cleared in
     run_unreported (g.D.Share.yards_lack c.store_plan.new.depot) (case c.args.options.now c.args.text.now (scene source out start) (scene next after now)) job counts
-    (c.in-Ok-store_plan.ensures.ended c.args.text.now start source next out after cleared) c.in-Err-report.ensures.cause
+    (c.in-Ok-store_plan.ensures.ended c.args.text.now start source next out after cleared)
+    (starts_then (run_limits c.args.options.now c.args.text.now job).asked (3 * (c.args.options.now.retries + 1)) (run_limits c.args.options.now c.args.text.now job).begun
+    (job_plan c.args.options.now job) counts start (g.D.Depot.shown c.prepare.new.depot) now
+    (subst (λ (j : Job). WithinCalls (run_limits c.args.options.now c.args.text.now j).asked start (g.D.Depot.shown c.prepare.new.depot)) (sym c.in-Ok-make_ready.ensures.job) c.in-Ok.ensures.calls)
+    (omega arith) c.in-Ok-store_plan.ensures.starts) c.in-Err-report.ensures.cause
     (subst (λ (p : PlanView). (n : ℕ) × (n ≤ length (report_line p counts)) × WroteFront out.told after.told (report_line p counts) n) c.in-Ok-make_ready.ensures.ready.plan_is
     c.in-Err-report.ensures.front)
 

@@ -118,5 +118,6 @@ returns g c = record {
       let (result, driven, answer) = c.drive_plan.ensures.driven in
       subst (λ (r : Result RunCounts Status). IfErr r IsStop) (sym answer) (stopped_of _ result);
   calls = c.drive_plan.ensures.calls;
+  starts = c.drive_plan.ensures.starts;
   stopped_calls = c.drive_plan.ensures.stopped_calls;
 }
