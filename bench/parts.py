@@ -3,7 +3,7 @@
 
   parts.py [--program FILE] [--dir FOLDER] [--runs N] [--processes N] [--tasks N] [--part N] [--only WORD..]
 
-  plan    `negative` over chunks of 1 MiB: `begin`, parts of so many tasks by a pool of processes, `resume`; beside it `run --workers`.
+  plan    `negative` over chunks of 1 MiB: `begin`, parts of so many tasks by `xargs -P`, `resume`; beside it `run --workers`.
           Which comes first changes at each round, and both results are compared. The aim: parts take at most 1.15 of the run's time.
   part    what a part costs beside its look-ups and its tasks (start, reading the text, planning): a part of no task, over an expression of
           256 nodes and over a plan of 65,536 tasks. The aim: at most 5 ms each.
@@ -14,7 +14,6 @@
 All chunks of the input are hard links to 64 files, so that the input takes 64 MiB.
 """
 import argparse
-import concurrent.futures
 import heapq
 import json
 import os
@@ -60,25 +59,27 @@ def remove_result(folder):
         shutil.rmtree(os.path.join(folder, name), ignore_errors=True)
 
 
+# One part by a shell: the program, the folder, the text's file, how many tasks, and the first.
+ONE_PART = 'exec "$1" "$2" part --op 0 --from "$5" --to "$(($5 + $4))" < "$3"'
+
+
 def by_parts(given, folder, text):
-    """The seconds of begin, of the parts by a pool of processes, and of resume; and those of each part."""
-    own = []
-
-    def part(first):
+    """The seconds of begin, of the parts by `xargs`, and of resume; and those of a part."""
+    with tempfile.NamedTemporaryFile(dir=given.dir) as file:
+        file.write(text)
+        file.flush()
         start = time.perf_counter()
-        end = min(first + given.part, given.tasks)
-        call(given.program, folder, text, "part", "--op", "0", "--from", str(first), "--to", str(end))
-        own.append(time.perf_counter() - start)
-
-    start = time.perf_counter()
-    call(given.program, folder, text, "begin")
-    with concurrent.futures.ThreadPoolExecutor(given.processes) as pool:
-        list(pool.map(part, range(0, given.tasks, given.part)))
-    told = call(given.program, folder, text, "resume")
-    taken = time.perf_counter() - start
+        call(given.program, folder, text, "begin")
+        begun = time.perf_counter()
+        firsts = "\n".join(map(str, range(0, given.tasks, given.part)))
+        words = ["xargs", "-P", str(given.processes), "-n", "1", "sh", "-c", ONE_PART, "sh", given.program, folder, file.name, str(given.part)]
+        subprocess.run(words, input=firsts.encode(), stdout=subprocess.DEVNULL, check=True)
+        ended = time.perf_counter()
+        told = call(given.program, folder, text, "resume")
+        taken = time.perf_counter() - start
     if " starts=0 " not in told:
         raise SystemExit(f"a task was left: {told}")
-    return taken, own
+    return taken, [(ended - begun) * given.processes / (given.tasks // given.part)]
 
 
 def by_workers(given, folder, text):
@@ -203,6 +204,8 @@ def main():
     words.add_argument("--part", type=int, default=64)
     words.add_argument("--only", choices=["plan", "part", "model"], nargs="*", default=["plan", "part", "model"])
     given = words.parse_args()
+    if given.tasks % given.part:
+        words.error("the tasks are no whole number of parts")
     see_that_it_is_built(given.program)
     own = []
     with tempfile.TemporaryDirectory(prefix="cubed-parts-", dir=given.dir) as folder:
