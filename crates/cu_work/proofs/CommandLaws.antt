@@ -5,7 +5,7 @@ use Rattle.std.proofs.lemmas.List.Elements.{All-nil, All-cons, Contains-append_l
 use Rattle.cu_shape.specs.Index.{quotients}
 use Rattle.cu_grid.proofs.Parting.{has_coordinate}
 use Rattle.cu_store.specs.Held.{Contents}
-use Rattle.cu_store.specs.Steps.{Shown, Changes, OrLate, IsChangedBy, Lands, Steps}
+use Rattle.cu_store.specs.Steps.{Shown, Changes, OrLate, IsChangedBy, Lands, Steps, Within}
 use Rattle.cu_store.proofs.Steps.{steps_wider}
 use Rattle.cu_zarr.specs.Stored.{element_in}
 use Rattle.cu_op.specs.declared.cells.Cell.{Cell}
@@ -21,13 +21,17 @@ use Rattle.cu_op.proofs.CellsOfTasks.{map_contains}
 use Rattle.cu_op.proofs.Plans.{grid_ok}
 use Rattle.cu_op.proofs.TaskCells.{task_for, written_cell}
 use Rattle.cu_run_law.specs.Left.{IsLeft, RunChange}
-use Rattle.cu_run_law.specs.Pieces.{PlanRun, Piece, Text, Chunk, IsPiece, piece_key, piece_value, IsInputChunk}
+use Rattle.cu_run_law.specs.Pieces.{PlanRun, Piece, Text, Chunk, IsPiece, chunks_alone, piece_key, piece_value, IsInputChunk}
+use Rattle.cu_run_law.proofs.Keeping.{change_alone}
 use Rattle.cu_run_law.proofs.Reading.{input_or_made}
 use Rattle.cu_work.specs.declared.run.Texts.{Texts}
 use Rattle.cu_work.specs.Commands.{CommandChange, AreCommands}
 use Rattle.cu_work.specs.Order.{task_keys, operation_keys, plan_keys}
+use Rattle.cu_work.specs.Part.{IsPartOf, PartPut}
 use Rattle.cu_work.specs.Removal.{RemovalIn, keys_before_record, removed_keys}
 use Rattle.cu_work.specs.Run.{run_of}
+use Rattle.cu_work.specs.declared.part.Part.{Part}
+use Rattle.cu_work.proofs.TriedTasks.{put_runs}
 
 told_after : (W : Changes) (held : Contents) (now : Option Contents) → Lands W (Some held) now → (new : Contents) × (now ≡ Some new) × ((key : List ℕ) → IsChangedBy W held new key)
 told_after W held None lands = absurd lands
@@ -97,6 +101,19 @@ commands_all r env old (new ∷ rest) left ((l, m, step), more) =
 
 pub run_command : (r : PlanRun) (l m : ℕ) (old new : Shown) → Steps (RunChange r old) l m old new → Steps (CommandChange r old) l m old new
 run_command r l m old new step = steps_wider (λ key value change. inl change) (omega arith) (omega arith) step
+
+-- what is put for the tasks of a part is put for its plan
+part_within : (p : PlanView) → Sound p → (q : Part) → IsPartOf p q → (first : Shown) → Within (PartPut p q first) (RunChange (chunks_alone p) first)
+part_within p sound q part first key value (task, within, lacks, put) =
+    let few = part.few in
+    let below = within.1 in
+    put_runs p sound q.op task part.operation (omega (arith, few, below)) first key value put
+
+pub part_command : (p : PlanView) (t : Texts) (q : Part) (l m : ℕ) (old new : Shown) → Sound p → IsPartOf p q → Steps (PartPut p q old) l m old new
+    → Steps (CommandChange (run_of p t) old) l m old new
+part_command p t q l m old new sound part step =
+    let alone : Steps (RunChange (chunks_alone p) old) l m old new = steps_wider (part_within p sound q part old) (omega arith) (omega arith) step in
+    run_command (run_of p t) l m old new (change_alone (run_of p t) old l m old new alone)
 
 -- ---- the keys that are removed are those of the pieces
 

@@ -1,4 +1,5 @@
--- What the commands of one plan change: a run and a run that goes on put values of pieces, and dropping removes pieces. This project's own rules.
+-- What the commands of one plan change: a run, one that is begun, a part and a run that goes on put values of pieces, and dropping
+-- removes pieces. This project's own rules.
 use Rattle.std.specs.Prelude.{◌≡◌, ◌⊎◌, ℕ, List, [], ◌∷◌, None}
 use Rattle.cu_store.specs.Steps.{Shown, Changes, Steps}
 use Rattle.cu_run_law.specs.Left.{RunChange}

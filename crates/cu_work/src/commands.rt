@@ -19,6 +19,8 @@ ghost use Rattle.cu_table.specs.Step.{Settings, Replays};
 ghost use Rattle.cu_work.specs.declared.run.Texts.{Texts};
 ghost use Rattle.cu_work.specs.Alone.{HasSeenDone};
 ghost use Rattle.cu_work.specs.Commands.{CommandChange, AreCommands};
+ghost use Rattle.cu_work.specs.Part.{IsPartOf, PartPut};
+ghost use Rattle.cu_work.specs.declared.part.Part.{Part};
 ghost use Rattle.cu_work.specs.Removal.{RemovalIn, removed_keys};
 ghost use Rattle.cu_work.specs.Run.{run_of};
 ghost use Rattle.cu_work.specs.Search.{NamesTask, NamesStored};
@@ -27,11 +29,14 @@ ghost use Rattle.cu_work.specs.World.{IsFound, IsStored};
 use cu_table::done_law;
 
 /// What commands of one plan keep. A store that is left so, each piece absent or with its value, is left so after any list of runs,
-/// of runs that go on and of removals, wherever each of them ended. The keys that `remove_plan` removes are those of the pieces.
+/// of runs that are begun, of parts, of runs that go on and of removals, wherever each of them ended. (What `store_texts` puts, which
+/// begins a run, is put for the run.) The keys that `remove_plan` removes are those of the pieces.
 pub fn commands_law()
     ensures kept { (r : PlanRun) (env : Elements) (least most : ℕ) (old new : Shown) → IsLeft r env old → Steps (CommandChange r old) least most old new → IsLeft r env new }
     ensures all { (r : PlanRun) (env : Elements) (old : Shown) (moments : List Shown) → IsLeft r env old → AreCommands r old moments → All (IsLeft r env) moments }
     ensures runs { (r : PlanRun) (least most : ℕ) (old new : Shown) → Steps (RunChange r old) least most old new → Steps (CommandChange r old) least most old new }
+    ensures parts { (p : PlanView) (t : Texts) (q : Part) (least most : ℕ) (old new : Shown) → Sound p → IsPartOf p q → Steps (PartPut p q old) least most old new
+        → Steps (CommandChange (run_of p t) old) least most old new }
     ensures drops { (p : PlanView) (t : Texts) (least most : ℕ) (old new : Shown) → Sound p → Steps (RemovalIn (removed_keys p t.record_key t.metadata_key)) least most old new
         → Steps (CommandChange (run_of p t) old) least most old new }
     ensures keys { (p : PlanView) (t : Texts) (q : Piece) → Sound p → IsPiece (run_of p t) q → Contains (removed_keys p t.record_key t.metadata_key) (piece_key (run_of p t) q) }
