@@ -31,6 +31,8 @@ CASES = [f"scan {t} {sizes} 0 5 1" for t in ("int32", "int64", "uint8", "int16")
 CASES += [f"scan {t} {sizes} 0 20 100" for t in ("int32", "int64", "uint8") for sizes in ("64 256 1", "1 64 256", "16 32 32", "1024 4 4")]
 CASES += [f"{what} {t} {sizes} 64 5 1" for what in ("sum", "min") for t in ("int32", "int16", "int64")
           for sizes in ("1 2048 1024", "64 256 128", "512 512 8", "2048 1024 1", "1 2097152 1")]
+# As many groups as there may be.
+CASES += [f"sum {t} 1 4194304 1 65536 5 1" for t in ("int32", "int16")]
 # A chunk of days and its twelve months.
 CASES += [f"{what} int16 1 365 16200 12 5 1" for what in ("sum", "min")]
 
