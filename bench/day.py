@@ -70,7 +70,7 @@ WORKS = {
         [node("i", "astype", "t", dtype="int32"), node("m", "multiply", "i", 9), node("d", "floor_divide", "m", 5), node("y", "add", "d", 320)],
         lambda t, base: (t.astype("int32") * 9) // 5 + 320, 0.6),
     "anomalies": Work([node("y", "subtract", "t", "base")], lambda t, base: t - base, 0.7),
-    "monthly sums": Work([node("s", "groupby_sum", "t", "month", axis=0, groups=MONTHS)], monthly_sums, 1.0, ("t", "month"))}
+    "monthly sums": Work([node("s", "groupby_sum", "t", "month", axis=0, groups=MONTHS)], monthly_sums, 0.25, ("t", "month"))}
 
 
 def make_inputs(folder, days):

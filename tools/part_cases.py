@@ -5,7 +5,7 @@ usage: tools/part_cases.py            the table of the gate
        tools/part_cases.py FOLDER     all cases: each stop of each part, and each order of the parts
 
 Each call fails once and for good; parts come in every order, twice, and before what they read; numbers are wrong; the sink fails.
-Keys, records, operations and projections come from bench/rules.py, bytes from NumPy, what tasks read and write from the scripts of the
+Keys, records, operations and projections come from compare/rules.py, bytes from NumPy, what tasks read and write from the scripts of the
 other tables. What a part asks for is worked out here: `looked_for` says it. Nothing comes from the program.
 """
 import itertools
