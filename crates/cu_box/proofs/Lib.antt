@@ -4,3 +4,7 @@ pub mod Joined
 pub mod SliceCopies
 pub mod Slices
 pub mod Swapped
+pub mod StridedAxes
+pub mod StridedLoops
+pub mod StridedRuns
+pub mod StridedNormal

@@ -168,7 +168,7 @@ pub fn place_on(spacing: &Spacing, row: u64) -> u64
 
 /// Copies `count` bytes, which are whole elements of `size` bytes, each with its bytes reversed where the order is big-endian.
 #[inline(always)]
-fn copy_run(
+pub(crate) fn copy_run(
     size: u64,
     order: Endian,
     source: &[u8],
