@@ -8,3 +8,6 @@ pub mod StridedAxes
 pub mod StridedLoops
 pub mod StridedRuns
 pub mod StridedNormal
+pub mod StridedBlocks
+pub mod StridedTiles
+pub mod BoxAxes

@@ -81,11 +81,11 @@ later_by f k i u d U D h =
     let y : (k + i) * d ≡ k * d + i * d = omega arith in
     omega (arith, x, y, h)
 
-read_later : (a : Axis) (n m : ℕ) (xs : List Axis) (start : Start) (k i : ℕ) (is : List ℕ) → IsAbove start a k
+pub read_later : (a : Axis) (n m : ℕ) (xs : List Axis) (start : Start) (k i : ℕ) (is : List ℕ) → IsAbove start a k
     → read_place (with_count a n ∷ xs) (later_start start a k) (i ∷ is) ≡ read_place (with_count a m ∷ xs) start ((k + i) ∷ is)
 read_later a n m xs start k i is b = later_by start.from k i (up a.from) (down a.from) (distance (λ x. up x.from) xs is) (distance (λ x. down x.from) xs is) b.read
 
-written_later : (a : Axis) (n m : ℕ) (xs : List Axis) (start : Start) (k i : ℕ) (is : List ℕ) → IsAbove start a k
+pub written_later : (a : Axis) (n m : ℕ) (xs : List Axis) (start : Start) (k i : ℕ) (is : List ℕ) → IsAbove start a k
     → written_place (with_count a n ∷ xs) (later_start start a k) (i ∷ is) ≡ written_place (with_count a m ∷ xs) start ((k + i) ∷ is)
 written_later a n m xs start k i is b = later_by start.to k i (up a.to) (down a.to) (distance (λ x. up x.to) xs is) (distance (λ x. down x.to) xs is) b.written
 

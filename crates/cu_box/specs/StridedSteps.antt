@@ -1,6 +1,7 @@
 -- Steps along the axes of a copy (this project's own words).
 use Rattle.std.specs.Prelude.{◌≡◌, ℕ, ◌+◌, ◌-◌, ◌*◌, ◌<◌, ◌≤◌, ◌^◌, List, [], ◌∷◌, length}
 use Rattle.cu_num.specs.Element.{IsSize}
+use Rattle.cu_shape.specs.Index.{product}
 use Rattle.cu_box.specs.Strided.{up, down, HavePlaces, IsEachFromOne}
 use Rattle.cu_box.specs.declared.strides.Axis.{Axis}
 use Rattle.cu_box.specs.declared.strides.Start.{Start}
@@ -45,3 +46,17 @@ pub record CanCopy (size : ℕ) (axes : List Axis) (start : Start) (source : Lis
 
 abbrev pub plane_axes : Plane → List Axis
 plane_axes plane = plane.outer ∷ plane.inner ∷ []
+
+-- a plane's part of so many indices of an axis, from one of them on
+abbrev pub inner_block_of : Plane → ℕ → ℕ → Plane
+inner_block_of plane at count = record { outer = plane.outer; inner = with_count plane.inner count; start = later_start plane.start plane.inner at }
+
+abbrev pub outer_block_of : Plane → ℕ → ℕ → Plane
+outer_block_of plane at count = record { outer = with_count plane.outer count; inner = plane.inner; start = later_start plane.start plane.outer at }
+
+-- the axes of a box of these sizes in two row-major arrays: each stride is the number of elements of the later axes
+abbrev pub box_axes : List ℕ → List ℕ → List ℕ → List Axis
+box_axes (n ∷ ns) (f ∷ fs) (t ∷ ts) = record { count = n; from = Up (product fs); to = Up (product ts) } ∷ box_axes ns fs ts
+box_axes [] fs ts = []
+box_axes (n ∷ ns) [] ts = []
+box_axes (n ∷ ns) (f ∷ fs) [] = []

@@ -7,7 +7,7 @@ ghost use Rattle.cu_box.specs.Strided.{counts, HavePlaces, IsEachFromOne, IsStri
 ghost use Rattle.cu_box.specs.StridedSteps.{CanCopy};
 
 use crate::normal::{ONE, axis_at, join, sort};
-use crate::planes::{Plane, copy_plane};
+use crate::planes::{Held, Plane, copy_plane};
 use crate::strides::{Axis, Start, later};
 use cu_num::Endian;
 
@@ -34,7 +34,8 @@ pub fn copy_strided(
     let first = join(axes, &mut held);
     let normal = &mut held[first..];
     sort(normal);
-    copy_axes(size, order, normal, start, source, target);
+    let mut tile = Held::make();
+    copy_axes(size, order, normal, start, source, target, &mut tile);
 }
 
 /// Whether an axis has no index.
@@ -59,6 +60,7 @@ fn copy_axes(
     start: Start,
     source: &[u8],
     target: &mut [u8],
+    tile: &mut Held,
 )
     requires two { 2 ≤ length axes.now }
     requires can { CanCopy size axes.now start source.now (length target.old) }
@@ -74,11 +76,11 @@ fn copy_axes(
             inner: axis_at(rest, 0),
             start,
         };
-        copy_plane(size, order, &plane, source, target);
+        copy_plane(size, order, &plane, source, target, tile);
     } else {
         for number in 0..outer.count {
             let place = later(start, *outer, number);
-            copy_axes(size, order, rest, place, source, target);
+            copy_axes(size, order, rest, place, source, target, tile);
         }
     }
 }

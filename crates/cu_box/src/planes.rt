@@ -1,13 +1,51 @@
 //! Elements of two axes that are copied along strides, by loops that fit the strides.
-ghost use Rattle.std.specs.Prelude.{◌≡◌, ◌*◌, ◌<◌, [], ◌∷◌, IsTrue, length};
+ghost use Rattle.std.specs.Prelude.{◌≡◌, ◌*◌, ◌<◌, ◌≤◌, [], ◌∷◌, IsTrue, length};
 ghost use Rattle.cu_num.specs.Element.{IsSize};
 ghost use Rattle.cu_shape.specs.Index.{product};
 ghost use Rattle.cu_box.specs.Strided.{IsStridedCopy, counts};
-ghost use Rattle.cu_box.specs.StridedSteps.{CanCopy, IsDenseAxis, plane_axes};
+ghost use Rattle.cu_box.specs.StridedSteps.{CanCopy, IsDenseAxis, IsStart, plane_axes, inner_block_of, outer_block_of};
 
+use crate::normal::far;
 use crate::rows::copy_run;
 use crate::strides::{Axis, Start, Stride, later};
 use cu_num::Endian;
+
+/// A turned plane of so few rows is copied in stretches of rows.
+const MOST_STREAMS: u64 = 16;
+
+/// The elements of such a stretch.
+const STRETCH: u64 = 1024;
+
+/// The rows and columns of a tile.
+const SIDE: u64 = 32;
+
+/// The columns of a stripe of tiles.
+const STRIPE: u64 = 256;
+
+/// The bytes of a tile of the largest elements.
+const TILE_BYTES: usize = 8192;
+
+/// Rows whose elements are so few bytes apart are neighbours.
+const NEAR: u64 = 256;
+
+/// Two buffers between which the elements of a tile change places.
+#[derive(Drop)]
+pub(crate) struct Held {
+    /// The rows of the source.
+    read: [u8; TILE_BYTES],
+    /// The rows of the target.
+    turned: [u8; TILE_BYTES],
+}
+
+impl Held {
+    /// Buffers for the tiles of one copy.
+    pub(crate) fn make() -> Held {
+        Held {
+            read: [0; TILE_BYTES],
+            turned: [0; TILE_BYTES],
+        }
+    }
+}
 
 /// Two axes of a copy, with the places of their first index.
 #[derive(Clone, Copy, Debug)]
@@ -21,26 +59,229 @@ pub(crate) struct Plane {
 }
 
 /// Copies the elements of a plane, by loops that are built for the size of an element.
-pub(crate) fn copy_plane(size: u64, order: Endian, plane: &Plane, source: &[u8], target: &mut [u8])
+pub(crate) fn copy_plane(
+    size: u64,
+    order: Endian,
+    plane: &Plane,
+    source: &[u8],
+    target: &mut [u8],
+    held: &mut Held,
+)
     requires can { CanCopy size (plane_axes plane.now) plane.now.start source.now (length target.old) }
     requires rows { 0 < plane.now.outer.count }
     requires some { 0 < plane.now.inner.count }
     ensures { IsStridedCopy size order (plane_axes plane.now) plane.now.start source.now target.old target.new }
 {
     match (size, order) {
-        (2, Endian::Little) => copy_sized(2, Endian::Little, *plane, source, target),
-        (4, Endian::Little) => copy_sized(4, Endian::Little, *plane, source, target),
-        (8, Endian::Little) => copy_sized(8, Endian::Little, *plane, source, target),
-        (2, Endian::Big) => copy_sized(2, Endian::Big, *plane, source, target),
-        (4, Endian::Big) => copy_sized(4, Endian::Big, *plane, source, target),
-        (8, Endian::Big) => copy_sized(8, Endian::Big, *plane, source, target),
-        _ => copy_sized(size, order, *plane, source, target),
+        (2, Endian::Little) => copy_sized(2, Endian::Little, *plane, source, target, held),
+        (4, Endian::Little) => copy_sized(4, Endian::Little, *plane, source, target, held),
+        (8, Endian::Little) => copy_sized(8, Endian::Little, *plane, source, target, held),
+        (2, Endian::Big) => copy_sized(2, Endian::Big, *plane, source, target, held),
+        (4, Endian::Big) => copy_sized(4, Endian::Big, *plane, source, target, held),
+        (8, Endian::Big) => copy_sized(8, Endian::Big, *plane, source, target, held),
+        _ => copy_sized(size, order, *plane, source, target, held),
     }
 }
 
-/// The same, for a size that each call gives as a literal.
+/// The same, for a size that each call gives as a literal: rows that stand together whole, a turned plane by streams or by
+/// tiles, and others line by line.
 #[inline(always)]
-fn copy_sized(size: u64, order: Endian, plane: Plane, source: &[u8], target: &mut [u8])
+fn copy_sized(
+    size: u64,
+    order: Endian,
+    plane: Plane,
+    source: &[u8],
+    target: &mut [u8],
+    held: &mut Held,
+)
+    requires can { CanCopy size (plane_axes plane) plane.start source.now (length target.old) }
+    requires rows { 0 < plane.outer.count }
+    requires some { 0 < plane.inner.count }
+    ensures { IsStridedCopy size order (plane_axes plane) plane.start source.now target.old target.new }
+{
+    if !is_turned(plane) {
+        copy_rows_of(size, order, plane, source, target);
+    } else if plane.outer.count <= MOST_STREAMS {
+        copy_streams(size, order, plane, source, target);
+    } else if is_near(size, plane) {
+        copy_lines(size, order, plane, source, target);
+    } else {
+        copy_stripes(size, order, plane, source, target, held);
+    }
+}
+
+/// Whether what is near in the buffer that is read is far in the one that is written.
+fn is_turned(plane: Plane) -> bool {
+    let outer = far(plane.outer.from);
+    outer != 0 && outer < far(plane.inner.from)
+}
+
+/// Whether the plane is a tile whose rows are neighbours in both buffers.
+fn is_near(size: u64, plane: Plane) -> bool {
+    plane.outer.count <= SIDE
+        && plane.inner.count <= SIDE
+        && far(plane.inner.from).saturating_mul(size) <= NEAR
+        && far(plane.outer.to).saturating_mul(size) <= NEAR
+}
+
+/// A plane of few rows: stretches of the rows, one after another, so that both buffers are gone through once.
+#[inline(always)]
+fn copy_streams(size: u64, order: Endian, plane: Plane, source: &[u8], target: &mut [u8])
+    requires can { CanCopy size (plane_axes plane) plane.start source.now (length target.old) }
+    requires rows { 0 < plane.outer.count }
+    ensures { IsStridedCopy size order (plane_axes plane) plane.start source.now target.old target.new }
+{
+    let mut at = 0;
+    while at < plane.inner.count {
+        let count = STRETCH.min(plane.inner.count - at);
+        let stretch = inner_block(plane, at, count);
+        copy_lines(size, order, stretch, source, target);
+        at += count;
+    }
+}
+
+/// A turned plane: stripes of its rows, each by tiles, so that few pages of either buffer are gone through at a time.
+#[inline(always)]
+fn copy_stripes(
+    size: u64,
+    order: Endian,
+    plane: Plane,
+    source: &[u8],
+    target: &mut [u8],
+    held: &mut Held,
+)
+    requires can { CanCopy size (plane_axes plane) plane.start source.now (length target.old) }
+    requires rows { 0 < plane.outer.count }
+    ensures { IsStridedCopy size order (plane_axes plane) plane.start source.now target.old target.new }
+{
+    let mut at = 0;
+    while at < plane.inner.count {
+        let count = STRIPE.min(plane.inner.count - at);
+        let stripe = inner_block(plane, at, count);
+        copy_stripe(size, order, stripe, source, target, held);
+        at += count;
+    }
+}
+
+/// One stripe, by rows of tiles.
+#[inline(always)]
+fn copy_stripe(
+    size: u64,
+    order: Endian,
+    plane: Plane,
+    source: &[u8],
+    target: &mut [u8],
+    held: &mut Held,
+)
+    requires can { CanCopy size (plane_axes plane) plane.start source.now (length target.old) }
+    requires some { 0 < plane.inner.count }
+    ensures { IsStridedCopy size order (plane_axes plane) plane.start source.now target.old target.new }
+{
+    let mut at = 0;
+    while at < plane.outer.count {
+        let count = SIDE.min(plane.outer.count - at);
+        let row = outer_block(plane, at, count);
+        copy_tiles(size, order, row, source, target, held);
+        at += count;
+    }
+}
+
+/// One row of tiles.
+#[inline(always)]
+fn copy_tiles(
+    size: u64,
+    order: Endian,
+    plane: Plane,
+    source: &[u8],
+    target: &mut [u8],
+    held: &mut Held,
+)
+    requires can { CanCopy size (plane_axes plane) plane.start source.now (length target.old) }
+    requires rows { 0 < plane.outer.count }
+    requires few_rows { plane.outer.count ≤ 32 }
+    ensures { IsStridedCopy size order (plane_axes plane) plane.start source.now target.old target.new }
+{
+    let mut at = 0;
+    while at < plane.inner.count {
+        let count = SIDE.min(plane.inner.count - at);
+        let tile = inner_block(plane, at, count);
+        copy_tile(size, order, tile, source, target, held);
+        at += count;
+    }
+}
+
+/// One tile: rows of the source come in whole and rows of the target go out whole, and between two buffers that fit the first
+/// cache the elements change places.
+#[inline(always)]
+fn copy_tile(
+    size: u64,
+    order: Endian,
+    plane: Plane,
+    source: &[u8],
+    target: &mut [u8],
+    held: &mut Held,
+)
+    requires can { CanCopy size (plane_axes plane) plane.start source.now (length target.old) }
+    requires rows { 0 < plane.outer.count }
+    requires some { 0 < plane.inner.count }
+    requires few_rows { plane.outer.count ≤ 32 }
+    requires few { plane.inner.count ≤ 32 }
+    ensures { IsStridedCopy size order (plane_axes plane) plane.start source.now target.old target.new }
+{
+    let (outer, inner) = (plane.outer, plane.inner);
+    let into = Plane {
+        outer: Axis {
+            count: inner.count,
+            from: inner.from,
+            to: Stride::Up(SIDE),
+        },
+        inner: Axis {
+            count: outer.count,
+            from: outer.from,
+            to: Stride::Up(1),
+        },
+        start: Start {
+            from: plane.start.from,
+            to: 0,
+        },
+    };
+    copy_rows_of(size, Endian::Little, into, source, &mut held.read);
+    let turn = Plane {
+        outer: Axis {
+            count: outer.count,
+            from: Stride::Up(1),
+            to: Stride::Up(SIDE),
+        },
+        inner: Axis {
+            count: inner.count,
+            from: Stride::Up(SIDE),
+            to: Stride::Up(1),
+        },
+        start: Start { from: 0, to: 0 },
+    };
+    copy_lines(size, order, turn, &held.read, &mut held.turned);
+    let out = Plane {
+        outer: Axis {
+            count: outer.count,
+            from: Stride::Up(SIDE),
+            to: outer.to,
+        },
+        inner: Axis {
+            count: inner.count,
+            from: Stride::Up(1),
+            to: inner.to,
+        },
+        start: Start {
+            from: 0,
+            to: plane.start.to,
+        },
+    };
+    copy_rows_of(size, Endian::Little, out, &held.turned, target);
+}
+
+/// Rows whole where they stand together, else element by element.
+#[inline(always)]
+fn copy_rows_of(size: u64, order: Endian, plane: Plane, source: &[u8], target: &mut [u8])
     requires can { CanCopy size (plane_axes plane) plane.start source.now (length target.old) }
     requires rows { 0 < plane.outer.count }
     requires some { 0 < plane.inner.count }
@@ -50,6 +291,40 @@ fn copy_sized(size: u64, order: Endian, plane: Plane, source: &[u8], target: &mu
         copy_runs(size, order, plane.inner.count * size, plane, source, target);
     } else {
         copy_lines(size, order, plane, source, target);
+    }
+}
+
+/// A plane's part along its inner axis, from one of its indices on.
+#[inline(always)]
+fn inner_block(plane: Plane, at: u64, count: u64) -> Plane
+    requires { IsStart plane.start plane.inner at }
+    ensures { result ≡ inner_block_of plane at count }
+{
+    Plane {
+        outer: plane.outer,
+        inner: Axis {
+            count,
+            from: plane.inner.from,
+            to: plane.inner.to,
+        },
+        start: later(plane.start, plane.inner, at),
+    }
+}
+
+/// A plane's part along its outer axis, from one of its indices on.
+#[inline(always)]
+fn outer_block(plane: Plane, at: u64, count: u64) -> Plane
+    requires { IsStart plane.start plane.outer at }
+    ensures { result ≡ outer_block_of plane at count }
+{
+    Plane {
+        outer: Axis {
+            count,
+            from: plane.outer.from,
+            to: plane.outer.to,
+        },
+        inner: plane.inner,
+        start: later(plane.start, plane.outer, at),
     }
 }
 
@@ -115,9 +390,66 @@ fn copy_dense(
     );
 }
 
-/// The same element by element.
+/// The same element by element. How far a step goes is known in the loops of the strides that come most often.
 #[inline(always)]
 fn copy_lines(size: u64, order: Endian, plane: Plane, source: &[u8], target: &mut [u8])
+    requires can { CanCopy size (plane_axes plane) plane.start source.now (length target.old) }
+    requires some { 0 < plane.inner.count }
+    ensures { IsStridedCopy size order (plane_axes plane) plane.start source.now target.old target.new }
+{
+    let (down, still, next) = (Stride::Down(1), Stride::Up(0), Stride::Up(1));
+    if goes(plane.inner, down, next) {
+        copy_going(size, order, plane, down, next, source, target);
+    } else if goes(plane.inner, still, next) {
+        copy_going(size, order, plane, still, next, source, target);
+    } else if goes(plane.inner, next, next) {
+        copy_going(size, order, plane, next, next, source, target);
+    } else {
+        copy_each_line(size, order, plane, source, target);
+    }
+}
+
+/// Whether these are the strides of an axis.
+#[inline(always)]
+fn goes(axis: Axis, from: Stride, to: Stride) -> bool
+    ensures read { IsTrue result → axis.from ≡ from }
+    ensures written { IsTrue result → axis.to ≡ to }
+{
+    axis.from == from && axis.to == to
+}
+
+/// The same of a plane whose inner axis has these strides, which each call gives as literals.
+#[inline(always)]
+fn copy_going(
+    size: u64,
+    order: Endian,
+    plane: Plane,
+    from: Stride,
+    to: Stride,
+    source: &[u8],
+    target: &mut [u8],
+)
+    requires can { CanCopy size (plane_axes plane) plane.start source.now (length target.old) }
+    requires some { 0 < plane.inner.count }
+    requires read { plane.inner.from ≡ from }
+    requires written { plane.inner.to ≡ to }
+    ensures { IsStridedCopy size order (plane_axes plane) plane.start source.now target.old target.new }
+{
+    let same = Plane {
+        outer: plane.outer,
+        inner: Axis {
+            count: plane.inner.count,
+            from,
+            to,
+        },
+        start: plane.start,
+    };
+    copy_each_line(size, order, same, source, target);
+}
+
+/// The same, line by line.
+#[inline(always)]
+fn copy_each_line(size: u64, order: Endian, plane: Plane, source: &[u8], target: &mut [u8])
     requires can { CanCopy size (plane_axes plane) plane.start source.now (length target.old) }
     requires some { 0 < plane.inner.count }
     ensures { IsStridedCopy size order (plane_axes plane) plane.start source.now target.old target.new }

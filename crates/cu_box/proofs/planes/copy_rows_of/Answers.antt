@@ -2,7 +2,7 @@ use Rattle.std.proofs.Common.{[], ◌∷◌, length, arith}
 use Rattle.cu_box.specs.StridedSteps.{later_start}
 use Rattle.cu_box.proofs.StridedLoops.{can_behind, one_axis}
 use Rattle.cu_box.proofs.StridedRuns.{dense_fits}
-use Rattle.cu_box.proofs.planes.copy_sized.Goals as goal
+use Rattle.cu_box.proofs.planes.copy_rows_of.Goals as goal
 
 pub overflow_mul-plane : goal.overflow_mul-plane
 overflow_mul-plane c =
