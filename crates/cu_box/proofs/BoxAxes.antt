@@ -4,8 +4,8 @@ use Rattle.std.proofs.Math.Nat.{mul-le-mul_right, le-mul_of_pos_right}
 use Rattle.std.proofs.lemmas.List.{drop-set, drop_more, drop_all}
 use Rattle.cu_num.specs.Element.{in_order}
 use Rattle.cu_num.specs.declared.layout.Endian.{Endian}
-use Rattle.cu_shape.specs.Index.{product, place_of, sums, IsInside}
-use Rattle.cu_shape.proofs.Places.{inside-length, place-below}
+use Rattle.cu_shape.specs.Index.{product, place_of, index_at, sums, IsInside}
+use Rattle.cu_shape.proofs.Places.{inside-length, place-below, index-place}
 use Rattle.cu_box.specs.Box.{IsBox, IsCopied}
 use Rattle.cu_box.specs.Order.{part_at}
 use Rattle.cu_box.specs.Strided.{up, down, distance, counts, read_place, written_place, HavePlaces, IsEachFromOne, IsStridedCopy}
@@ -14,7 +14,27 @@ use Rattle.cu_box.specs.declared.boxes.Placing.{Placing}
 use Rattle.cu_box.specs.declared.strides.Axis.{Axis}
 use Rattle.cu_box.specs.declared.strides.Start.{Start}
 use Rattle.cu_box.specs.declared.strides.Stride.TheVariants.{Up}
-use Rattle.cu_box.proofs.Slices.{same_index}
+
+-- a corner is taken off on both sides
+sums_cancel : (corner i j : List ℕ) → length corner ≡ length i → length corner ≡ length j → sums corner i ≡ sums corner j → i ≡ j
+sums_cancel [] [] [] p q e = refl
+sums_cancel (c ∷ cs) (x ∷ i) (y ∷ j) p q e =
+    let head : c + x ≡ c + y = cc in
+    let tail : sums cs i ≡ sums cs j = cc in
+    let same : x ≡ y = omega arith in
+    let rest : i ≡ j = sums_cancel cs i j (omega arith) (omega arith) tail in
+    cc
+sums_cancel corner i j p q e = absurd (omega arith)
+
+same_index : (sizes shape corner i j : List ℕ) → IsBox sizes shape corner → IsInside sizes i → IsInside sizes j
+    → place_of shape (sums corner i) ≡ place_of shape (sums corner j) → i ≡ j
+same_index sizes shape corner i j box a b e =
+    let p = index-place shape (sums corner i) (box.inside i a) in
+    let q = index-place shape (sums corner j) (box.inside j b) in
+    let l = inside-length sizes i a in
+    let m = inside-length sizes j b in
+    let r = box.corner_rank in
+    sums_cancel corner i j (omega arith) (omega arith) (sym p ∙ ap (index_at shape) e ∙ q)
 
 pub counts_box : (ns fs ts : List ℕ) → length fs ≡ length ns → length ts ≡ length ns → counts (box_axes ns fs ts) ≡ ns
 counts_box [] fs ts e f = refl

@@ -1,8 +1,6 @@
 pub mod PartRuns
 pub mod RowCopies
 pub mod Joined
-pub mod SliceCopies
-pub mod Slices
 pub mod Swapped
 pub mod StridedAxes
 pub mod StridedLoops

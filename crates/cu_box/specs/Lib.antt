@@ -1,6 +1,5 @@
 pub mod Box
 pub mod Order
 pub mod Rows
-pub mod Slices
 pub mod Strided
 pub mod StridedSteps
