@@ -245,7 +245,7 @@ fn copy_tile(
             to: 0,
         },
     };
-    copy_rows_of(size, Endian::Little, into, source, &mut held.read);
+    copy_tile_rows(size, Endian::Little, into, source, &mut held.read);
     let turn = Plane {
         outer: Axis {
             count: outer.count,
@@ -276,7 +276,7 @@ fn copy_tile(
             to: plane.start.to,
         },
     };
-    copy_rows_of(size, Endian::Little, out, &held.turned, target);
+    copy_tile_rows(size, Endian::Little, out, &held.turned, target);
 }
 
 /// Rows whole where they stand together, else element by element.
@@ -288,9 +288,29 @@ fn copy_rows_of(size: u64, order: Endian, plane: Plane, source: &[u8], target: &
     ensures { IsStridedCopy size order (plane_axes plane) plane.start source.now target.old target.new }
 {
     if is_dense(plane.inner) {
-        copy_runs(size, order, plane.inner.count * size, plane, source, target);
+        let bytes = plane.inner.count * size;
+        copy_runs(size, order, bytes, plane, source, target);
     } else {
         copy_lines(size, order, plane, source, target);
+    }
+}
+
+/// The same for a tile, most of whose rows have as many elements as a tile can have.
+#[inline(always)]
+fn copy_tile_rows(size: u64, order: Endian, plane: Plane, source: &[u8], target: &mut [u8])
+    requires can { CanCopy size (plane_axes plane) plane.start source.now (length target.old) }
+    requires rows { 0 < plane.outer.count }
+    requires some { 0 < plane.inner.count }
+    ensures { IsStridedCopy size order (plane_axes plane) plane.start source.now target.old target.new }
+{
+    if !is_dense(plane.inner) {
+        copy_lines(size, order, plane, source, target);
+    } else if plane.inner.count == SIDE {
+        let whole = SIDE * size;
+        copy_each_run(size, order, whole, plane, source, target);
+    } else {
+        let bytes = plane.inner.count * size;
+        copy_each_run(size, order, bytes, plane, source, target);
     }
 }
 
@@ -345,9 +365,43 @@ fn is_next(stride: Stride) -> bool
     }
 }
 
-/// The same where the elements along the inner axis follow one another, `bytes` at a time.
+/// The same where the elements along the inner axis follow one another, `bytes` at a time. How many bytes a short row has is
+/// known in its loop.
 #[inline(always)]
 fn copy_runs(size: u64, order: Endian, bytes: u64, plane: Plane, source: &[u8], target: &mut [u8])
+    requires can { CanCopy size (plane_axes plane) plane.start source.now (length target.old) }
+    requires some { 0 < plane.inner.count }
+    requires dense { IsDenseAxis plane.inner }
+    requires bytes { bytes ≡ plane.inner.count * size }
+    ensures { IsStridedCopy size order (plane_axes plane) plane.start source.now target.old target.new }
+{
+    match bytes {
+        1 => copy_each_run(size, order, 1, plane, source, target),
+        2 => copy_each_run(size, order, 2, plane, source, target),
+        3 => copy_each_run(size, order, 3, plane, source, target),
+        4 => copy_each_run(size, order, 4, plane, source, target),
+        6 => copy_each_run(size, order, 6, plane, source, target),
+        8 => copy_each_run(size, order, 8, plane, source, target),
+        12 => copy_each_run(size, order, 12, plane, source, target),
+        16 => copy_each_run(size, order, 16, plane, source, target),
+        24 => copy_each_run(size, order, 24, plane, source, target),
+        32 => copy_each_run(size, order, 32, plane, source, target),
+        48 => copy_each_run(size, order, 48, plane, source, target),
+        64 => copy_each_run(size, order, 64, plane, source, target),
+        _ => copy_each_run(size, order, bytes, plane, source, target),
+    }
+}
+
+/// The same for a number of bytes that is known where it is called.
+#[inline(always)]
+fn copy_each_run(
+    size: u64,
+    order: Endian,
+    bytes: u64,
+    plane: Plane,
+    source: &[u8],
+    target: &mut [u8],
+)
     requires can { CanCopy size (plane_axes plane) plane.start source.now (length target.old) }
     requires some { 0 < plane.inner.count }
     requires dense { IsDenseAxis plane.inner }

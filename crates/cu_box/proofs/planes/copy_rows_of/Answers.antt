@@ -4,8 +4,8 @@ use Rattle.cu_box.proofs.StridedLoops.{can_behind, one_axis}
 use Rattle.cu_box.proofs.StridedRuns.{dense_fits}
 use Rattle.cu_box.proofs.planes.copy_rows_of.Goals as goal
 
-pub overflow_mul-plane : goal.overflow_mul-plane
-overflow_mul-plane c =
+pub overflow_mul-bytes : goal.overflow_mul-bytes
+overflow_mul-bytes c =
     let outer = c.args.plane.outer in
     let inner = c.args.plane.inner in
     let start = c.args.plane.start in

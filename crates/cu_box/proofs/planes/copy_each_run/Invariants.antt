@@ -1,7 +1,7 @@
 use Rattle.std.proofs.Common.{[], ◌∷◌}
 use Rattle.cu_box.specs.Strided.{IsStridedCopy}
 use Rattle.cu_box.specs.StridedSteps.{with_count}
-use Rattle.cu_box.proofs.planes.copy_runs.Given as goal
+use Rattle.cu_box.proofs.planes.copy_each_run.Given as goal
 
 abbrev pub invariant-loop-row : goal.invariant-loop-row
 invariant-loop-row l = IsStridedCopy l.size l.order (with_count l.plane.outer l.row ∷ l.plane.inner ∷ []) l.plane.start l.source l.fn.target l.target

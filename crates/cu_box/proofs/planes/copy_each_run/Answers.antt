@@ -1,6 +1,6 @@
 use Rattle.std.proofs.Common.{[], ◌∷◌, length, arith}
 use Rattle.cu_box.proofs.StridedLoops.{start_of, can_there, copied_there, none_copied, all_copied, one_axis}
-use Rattle.cu_box.proofs.planes.copy_runs.Goals as goal
+use Rattle.cu_box.proofs.planes.copy_each_run.Goals as goal
 
 pub loop-row-init : goal.loop-row-init
 loop-row-init c = none_copied c.args.size c.args.order c.args.plane.outer (c.args.plane.inner ∷ []) c.args.plane.start c.args.source.now c.args.target.now
