@@ -6,7 +6,7 @@ ghost use Rattle.cu_box.specs.Strided.{IsStridedCopy, counts};
 ghost use Rattle.cu_box.specs.StridedSteps.{CanCopy, IsDenseAxis, IsStart, plane_axes, inner_block_of, outer_block_of};
 
 use crate::normal::far;
-use crate::rows::copy_run;
+use crate::rows::{copy_array, copy_run};
 use crate::strides::{Axis, Start, Stride, later};
 use cu_num::Endian;
 
@@ -72,41 +72,37 @@ pub(crate) fn copy_plane(
     requires some { 0 < plane.now.inner.count }
     ensures { IsStridedCopy size order (plane_axes plane.now) plane.now.start source.now target.old target.new }
 {
-    match (size, order) {
-        (2, Endian::Little) => copy_sized(2, Endian::Little, *plane, source, target, held),
-        (4, Endian::Little) => copy_sized(4, Endian::Little, *plane, source, target, held),
-        (8, Endian::Little) => copy_sized(8, Endian::Little, *plane, source, target, held),
-        (2, Endian::Big) => copy_sized(2, Endian::Big, *plane, source, target, held),
-        (4, Endian::Big) => copy_sized(4, Endian::Big, *plane, source, target, held),
-        (8, Endian::Big) => copy_sized(8, Endian::Big, *plane, source, target, held),
-        _ => copy_sized(size, order, *plane, source, target, held),
+    match size {
+        1 => copy_sized::<1>(order, *plane, source, target, held),
+        2 => copy_sized::<2>(order, *plane, source, target, held),
+        4 => copy_sized::<4>(order, *plane, source, target, held),
+        8 => copy_sized::<8>(order, *plane, source, target, held),
+        _ => unreachable!(),
     }
 }
 
-/// The same, for a size that each call gives as a literal: rows that stand together whole, a turned plane by streams or by
+/// The same, for elements of N bytes: rows that stand together whole, a turned plane by streams or by
 /// tiles, and others line by line.
-#[inline(always)]
-fn copy_sized(
-    size: u64,
+fn copy_sized<const N: usize>(
     order: Endian,
     plane: Plane,
     source: &[u8],
     target: &mut [u8],
     held: &mut Held,
 )
-    requires can { CanCopy size (plane_axes plane) plane.start source.now (length target.old) }
+    requires can { CanCopy N (plane_axes plane) plane.start source.now (length target.old) }
     requires rows { 0 < plane.outer.count }
     requires some { 0 < plane.inner.count }
-    ensures { IsStridedCopy size order (plane_axes plane) plane.start source.now target.old target.new }
+    ensures { IsStridedCopy N order (plane_axes plane) plane.start source.now target.old target.new }
 {
     if !is_turned(plane) {
-        copy_rows_of(size, order, plane, source, target);
+        copy_rows_of::<N>(order, plane, source, target);
     } else if plane.outer.count <= MOST_STREAMS {
-        copy_streams(size, order, plane, source, target);
-    } else if is_near(size, plane) {
-        copy_lines(size, order, plane, source, target);
+        copy_streams::<N>(order, plane, source, target);
+    } else if is_near(N as u64, plane) {
+        copy_lines::<N>(order, plane, source, target);
     } else {
-        copy_stripes(size, order, plane, source, target, held);
+        copy_stripes::<N>(order, plane, source, target, held);
     }
 }
 
@@ -125,108 +121,99 @@ fn is_near(size: u64, plane: Plane) -> bool {
 }
 
 /// A plane of few rows: stretches of the rows, one after another, so that both buffers are gone through once.
-#[inline(always)]
-fn copy_streams(size: u64, order: Endian, plane: Plane, source: &[u8], target: &mut [u8])
-    requires can { CanCopy size (plane_axes plane) plane.start source.now (length target.old) }
+fn copy_streams<const N: usize>(order: Endian, plane: Plane, source: &[u8], target: &mut [u8])
+    requires can { CanCopy N (plane_axes plane) plane.start source.now (length target.old) }
     requires rows { 0 < plane.outer.count }
-    ensures { IsStridedCopy size order (plane_axes plane) plane.start source.now target.old target.new }
+    ensures { IsStridedCopy N order (plane_axes plane) plane.start source.now target.old target.new }
 {
     let mut at = 0;
     while at < plane.inner.count {
         let count = STRETCH.min(plane.inner.count - at);
         let stretch = inner_block(plane, at, count);
-        copy_lines(size, order, stretch, source, target);
+        copy_lines::<N>(order, stretch, source, target);
         at += count;
     }
 }
 
 /// A turned plane: stripes of its rows, each by tiles, so that few pages of either buffer are gone through at a time.
-#[inline(always)]
-fn copy_stripes(
-    size: u64,
+fn copy_stripes<const N: usize>(
     order: Endian,
     plane: Plane,
     source: &[u8],
     target: &mut [u8],
     held: &mut Held,
 )
-    requires can { CanCopy size (plane_axes plane) plane.start source.now (length target.old) }
+    requires can { CanCopy N (plane_axes plane) plane.start source.now (length target.old) }
     requires rows { 0 < plane.outer.count }
-    ensures { IsStridedCopy size order (plane_axes plane) plane.start source.now target.old target.new }
+    ensures { IsStridedCopy N order (plane_axes plane) plane.start source.now target.old target.new }
 {
     let mut at = 0;
     while at < plane.inner.count {
         let count = STRIPE.min(plane.inner.count - at);
         let stripe = inner_block(plane, at, count);
-        copy_stripe(size, order, stripe, source, target, held);
+        copy_stripe::<N>(order, stripe, source, target, held);
         at += count;
     }
 }
 
 /// One stripe, by rows of tiles.
-#[inline(always)]
-fn copy_stripe(
-    size: u64,
+fn copy_stripe<const N: usize>(
     order: Endian,
     plane: Plane,
     source: &[u8],
     target: &mut [u8],
     held: &mut Held,
 )
-    requires can { CanCopy size (plane_axes plane) plane.start source.now (length target.old) }
+    requires can { CanCopy N (plane_axes plane) plane.start source.now (length target.old) }
     requires some { 0 < plane.inner.count }
-    ensures { IsStridedCopy size order (plane_axes plane) plane.start source.now target.old target.new }
+    ensures { IsStridedCopy N order (plane_axes plane) plane.start source.now target.old target.new }
 {
     let mut at = 0;
     while at < plane.outer.count {
         let count = SIDE.min(plane.outer.count - at);
         let row = outer_block(plane, at, count);
-        copy_tiles(size, order, row, source, target, held);
+        copy_tiles::<N>(order, row, source, target, held);
         at += count;
     }
 }
 
 /// One row of tiles.
-#[inline(always)]
-fn copy_tiles(
-    size: u64,
+fn copy_tiles<const N: usize>(
     order: Endian,
     plane: Plane,
     source: &[u8],
     target: &mut [u8],
     held: &mut Held,
 )
-    requires can { CanCopy size (plane_axes plane) plane.start source.now (length target.old) }
+    requires can { CanCopy N (plane_axes plane) plane.start source.now (length target.old) }
     requires rows { 0 < plane.outer.count }
     requires few_rows { plane.outer.count ≤ 32 }
-    ensures { IsStridedCopy size order (plane_axes plane) plane.start source.now target.old target.new }
+    ensures { IsStridedCopy N order (plane_axes plane) plane.start source.now target.old target.new }
 {
     let mut at = 0;
     while at < plane.inner.count {
         let count = SIDE.min(plane.inner.count - at);
         let tile = inner_block(plane, at, count);
-        copy_tile(size, order, tile, source, target, held);
+        copy_tile::<N>(order, tile, source, target, held);
         at += count;
     }
 }
 
 /// One tile: rows of the source come in whole and rows of the target go out whole, and between two buffers that fit the first
 /// cache the elements change places.
-#[inline(always)]
-fn copy_tile(
-    size: u64,
+fn copy_tile<const N: usize>(
     order: Endian,
     plane: Plane,
     source: &[u8],
     target: &mut [u8],
     held: &mut Held,
 )
-    requires can { CanCopy size (plane_axes plane) plane.start source.now (length target.old) }
+    requires can { CanCopy N (plane_axes plane) plane.start source.now (length target.old) }
     requires rows { 0 < plane.outer.count }
     requires some { 0 < plane.inner.count }
     requires few_rows { plane.outer.count ≤ 32 }
     requires few { plane.inner.count ≤ 32 }
-    ensures { IsStridedCopy size order (plane_axes plane) plane.start source.now target.old target.new }
+    ensures { IsStridedCopy N order (plane_axes plane) plane.start source.now target.old target.new }
 {
     let (outer, inner) = (plane.outer, plane.inner);
     let into = Plane {
@@ -245,7 +232,7 @@ fn copy_tile(
             to: 0,
         },
     };
-    copy_tile_rows(size, Endian::Little, into, source, &mut held.read);
+    copy_tile_rows::<N>(Endian::Little, into, source, &mut held.read);
     let turn = Plane {
         outer: Axis {
             count: outer.count,
@@ -259,7 +246,7 @@ fn copy_tile(
         },
         start: Start { from: 0, to: 0 },
     };
-    copy_lines(size, order, turn, &held.read, &mut held.turned);
+    copy_each_line::<N>(order, turn, &held.read, &mut held.turned);
     let out = Plane {
         outer: Axis {
             count: outer.count,
@@ -276,41 +263,40 @@ fn copy_tile(
             to: plane.start.to,
         },
     };
-    copy_tile_rows(size, Endian::Little, out, &held.turned, target);
+    copy_tile_rows::<N>(Endian::Little, out, &held.turned, target);
 }
 
 /// Rows whole where they stand together, else element by element.
-#[inline(always)]
-fn copy_rows_of(size: u64, order: Endian, plane: Plane, source: &[u8], target: &mut [u8])
-    requires can { CanCopy size (plane_axes plane) plane.start source.now (length target.old) }
+fn copy_rows_of<const N: usize>(order: Endian, plane: Plane, source: &[u8], target: &mut [u8])
+    requires can { CanCopy N (plane_axes plane) plane.start source.now (length target.old) }
     requires rows { 0 < plane.outer.count }
     requires some { 0 < plane.inner.count }
-    ensures { IsStridedCopy size order (plane_axes plane) plane.start source.now target.old target.new }
+    ensures { IsStridedCopy N order (plane_axes plane) plane.start source.now target.old target.new }
 {
     if is_dense(plane.inner) {
-        let bytes = plane.inner.count * size;
-        copy_runs(size, order, bytes, plane, source, target);
+        let bytes = plane.inner.count * N as u64;
+        copy_runs::<N>(order, bytes, plane, source, target);
     } else {
-        copy_lines(size, order, plane, source, target);
+        copy_lines::<N>(order, plane, source, target);
     }
 }
 
 /// The same for a tile, most of whose rows have as many elements as a tile can have.
 #[inline(always)]
-fn copy_tile_rows(size: u64, order: Endian, plane: Plane, source: &[u8], target: &mut [u8])
-    requires can { CanCopy size (plane_axes plane) plane.start source.now (length target.old) }
+fn copy_tile_rows<const N: usize>(order: Endian, plane: Plane, source: &[u8], target: &mut [u8])
+    requires can { CanCopy N (plane_axes plane) plane.start source.now (length target.old) }
     requires rows { 0 < plane.outer.count }
     requires some { 0 < plane.inner.count }
-    ensures { IsStridedCopy size order (plane_axes plane) plane.start source.now target.old target.new }
+    ensures { IsStridedCopy N order (plane_axes plane) plane.start source.now target.old target.new }
 {
     if !is_dense(plane.inner) {
-        copy_lines(size, order, plane, source, target);
+        copy_lines::<N>(order, plane, source, target);
     } else if plane.inner.count == SIDE {
-        let whole = SIDE * size;
-        copy_each_run(size, order, whole, plane, source, target);
+        let whole = SIDE * N as u64;
+        copy_each_run::<N>(order, whole, plane, source, target);
     } else {
-        let bytes = plane.inner.count * size;
-        copy_each_run(size, order, bytes, plane, source, target);
+        let bytes = plane.inner.count * N as u64;
+        copy_each_run::<N>(order, bytes, plane, source, target);
     }
 }
 
@@ -367,57 +353,60 @@ fn is_next(stride: Stride) -> bool
 
 /// The same where the elements along the inner axis follow one another, `bytes` at a time. How many bytes a short row has is
 /// known in its loop.
-#[inline(always)]
-fn copy_runs(size: u64, order: Endian, bytes: u64, plane: Plane, source: &[u8], target: &mut [u8])
-    requires can { CanCopy size (plane_axes plane) plane.start source.now (length target.old) }
-    requires some { 0 < plane.inner.count }
-    requires dense { IsDenseAxis plane.inner }
-    requires bytes { bytes ≡ plane.inner.count * size }
-    ensures { IsStridedCopy size order (plane_axes plane) plane.start source.now target.old target.new }
-{
-    match bytes {
-        1 => copy_each_run(size, order, 1, plane, source, target),
-        2 => copy_each_run(size, order, 2, plane, source, target),
-        3 => copy_each_run(size, order, 3, plane, source, target),
-        4 => copy_each_run(size, order, 4, plane, source, target),
-        6 => copy_each_run(size, order, 6, plane, source, target),
-        8 => copy_each_run(size, order, 8, plane, source, target),
-        12 => copy_each_run(size, order, 12, plane, source, target),
-        16 => copy_each_run(size, order, 16, plane, source, target),
-        24 => copy_each_run(size, order, 24, plane, source, target),
-        32 => copy_each_run(size, order, 32, plane, source, target),
-        48 => copy_each_run(size, order, 48, plane, source, target),
-        64 => copy_each_run(size, order, 64, plane, source, target),
-        _ => copy_each_run(size, order, bytes, plane, source, target),
-    }
-}
-
-/// The same for a number of bytes that is known where it is called.
-#[inline(always)]
-fn copy_each_run(
-    size: u64,
+fn copy_runs<const N: usize>(
     order: Endian,
     bytes: u64,
     plane: Plane,
     source: &[u8],
     target: &mut [u8],
 )
-    requires can { CanCopy size (plane_axes plane) plane.start source.now (length target.old) }
+    requires can { CanCopy N (plane_axes plane) plane.start source.now (length target.old) }
     requires some { 0 < plane.inner.count }
     requires dense { IsDenseAxis plane.inner }
-    requires bytes { bytes ≡ plane.inner.count * size }
-    ensures { IsStridedCopy size order (plane_axes plane) plane.start source.now target.old target.new }
+    requires bytes { bytes ≡ plane.inner.count * N }
+    ensures { IsStridedCopy N order (plane_axes plane) plane.start source.now target.old target.new }
+{
+    match bytes {
+        1 => copy_each_run::<N>(order, 1, plane, source, target),
+        2 => copy_each_run::<N>(order, 2, plane, source, target),
+        3 => copy_each_run::<N>(order, 3, plane, source, target),
+        4 => copy_each_run::<N>(order, 4, plane, source, target),
+        6 => copy_each_run::<N>(order, 6, plane, source, target),
+        8 => copy_each_run::<N>(order, 8, plane, source, target),
+        12 => copy_each_run::<N>(order, 12, plane, source, target),
+        16 => copy_each_run::<N>(order, 16, plane, source, target),
+        24 => copy_each_run::<N>(order, 24, plane, source, target),
+        32 => copy_each_run::<N>(order, 32, plane, source, target),
+        48 => copy_each_run::<N>(order, 48, plane, source, target),
+        64 => copy_each_run::<N>(order, 64, plane, source, target),
+        _ => copy_each_run::<N>(order, bytes, plane, source, target),
+    }
+}
+
+/// The same for a number of bytes that is known where it is called.
+#[inline(always)]
+fn copy_each_run<const N: usize>(
+    order: Endian,
+    bytes: u64,
+    plane: Plane,
+    source: &[u8],
+    target: &mut [u8],
+)
+    requires can { CanCopy N (plane_axes plane) plane.start source.now (length target.old) }
+    requires some { 0 < plane.inner.count }
+    requires dense { IsDenseAxis plane.inner }
+    requires bytes { bytes ≡ plane.inner.count * N }
+    ensures { IsStridedCopy N order (plane_axes plane) plane.start source.now target.old target.new }
 {
     for row in 0..plane.outer.count {
         let place = later(plane.start, plane.outer, row);
-        copy_dense(size, order, bytes, plane.inner, place, source, target);
+        copy_dense::<N>(order, bytes, plane.inner, place, source, target);
     }
 }
 
 /// Copies elements that follow one another in both buffers, `bytes` in all.
 #[inline(always)]
-fn copy_dense(
-    size: u64,
+fn copy_dense<const N: usize>(
     order: Endian,
     bytes: u64,
     axis: Axis,
@@ -425,16 +414,16 @@ fn copy_dense(
     source: &[u8],
     target: &mut [u8],
 )
-    requires can { CanCopy size (axis ∷ []) start source.now (length target.old) }
+    requires can { CanCopy N (axis ∷ []) start source.now (length target.old) }
     requires some { 0 < axis.count }
     requires dense { IsDenseAxis axis }
-    requires bytes { bytes ≡ axis.count * size }
-    ensures { IsStridedCopy size order (axis ∷ []) start source.now target.old target.new }
+    requires bytes { bytes ≡ axis.count * N }
+    ensures { IsStridedCopy N order (axis ∷ []) start source.now target.old target.new }
 {
-    let first = start.from * size;
-    let at = start.to * size;
+    let first = start.from * N as u64;
+    let at = start.to * N as u64;
     copy_run(
-        size,
+        N as u64,
         order,
         source,
         first as usize,
@@ -445,21 +434,20 @@ fn copy_dense(
 }
 
 /// The same element by element. How far a step goes is known in the loops of the strides that come most often.
-#[inline(always)]
-fn copy_lines(size: u64, order: Endian, plane: Plane, source: &[u8], target: &mut [u8])
-    requires can { CanCopy size (plane_axes plane) plane.start source.now (length target.old) }
+fn copy_lines<const N: usize>(order: Endian, plane: Plane, source: &[u8], target: &mut [u8])
+    requires can { CanCopy N (plane_axes plane) plane.start source.now (length target.old) }
     requires some { 0 < plane.inner.count }
-    ensures { IsStridedCopy size order (plane_axes plane) plane.start source.now target.old target.new }
+    ensures { IsStridedCopy N order (plane_axes plane) plane.start source.now target.old target.new }
 {
     let (down, still, next) = (Stride::Down(1), Stride::Up(0), Stride::Up(1));
     if goes(plane.inner, down, next) {
-        copy_going(size, order, plane, down, next, source, target);
+        copy_going::<N>(order, plane, down, next, source, target);
     } else if goes(plane.inner, still, next) {
-        copy_going(size, order, plane, still, next, source, target);
+        copy_going::<N>(order, plane, still, next, source, target);
     } else if goes(plane.inner, next, next) {
-        copy_going(size, order, plane, next, next, source, target);
+        copy_going::<N>(order, plane, next, next, source, target);
     } else {
-        copy_each_line(size, order, plane, source, target);
+        copy_each_line::<N>(order, plane, source, target);
     }
 }
 
@@ -474,8 +462,7 @@ fn goes(axis: Axis, from: Stride, to: Stride) -> bool
 
 /// The same of a plane whose inner axis has these strides, which each call gives as literals.
 #[inline(always)]
-fn copy_going(
-    size: u64,
+fn copy_going<const N: usize>(
     order: Endian,
     plane: Plane,
     from: Stride,
@@ -483,11 +470,11 @@ fn copy_going(
     source: &[u8],
     target: &mut [u8],
 )
-    requires can { CanCopy size (plane_axes plane) plane.start source.now (length target.old) }
+    requires can { CanCopy N (plane_axes plane) plane.start source.now (length target.old) }
     requires some { 0 < plane.inner.count }
     requires read { plane.inner.from ≡ from }
     requires written { plane.inner.to ≡ to }
-    ensures { IsStridedCopy size order (plane_axes plane) plane.start source.now target.old target.new }
+    ensures { IsStridedCopy N order (plane_axes plane) plane.start source.now target.old target.new }
 {
     let same = Plane {
         outer: plane.outer,
@@ -498,49 +485,47 @@ fn copy_going(
         },
         start: plane.start,
     };
-    copy_each_line(size, order, same, source, target);
+    copy_each_line::<N>(order, same, source, target);
 }
 
 /// The same, line by line.
 #[inline(always)]
-fn copy_each_line(size: u64, order: Endian, plane: Plane, source: &[u8], target: &mut [u8])
-    requires can { CanCopy size (plane_axes plane) plane.start source.now (length target.old) }
+fn copy_each_line<const N: usize>(order: Endian, plane: Plane, source: &[u8], target: &mut [u8])
+    requires can { CanCopy N (plane_axes plane) plane.start source.now (length target.old) }
     requires some { 0 < plane.inner.count }
-    ensures { IsStridedCopy size order (plane_axes plane) plane.start source.now target.old target.new }
+    ensures { IsStridedCopy N order (plane_axes plane) plane.start source.now target.old target.new }
 {
     for row in 0..plane.outer.count {
         let place = later(plane.start, plane.outer, row);
-        copy_line(size, order, plane.inner, place, source, target);
+        copy_line::<N>(order, plane.inner, place, source, target);
     }
 }
 
 /// Copies the elements along one axis.
 #[inline(always)]
-fn copy_line(size: u64, order: Endian, axis: Axis, start: Start, source: &[u8], target: &mut [u8])
-    requires { CanCopy size (axis ∷ []) start source.now (length target.old) }
-    ensures { IsStridedCopy size order (axis ∷ []) start source.now target.old target.new }
+fn copy_line<const N: usize>(
+    order: Endian,
+    axis: Axis,
+    start: Start,
+    source: &[u8],
+    target: &mut [u8],
+)
+    requires { CanCopy N (axis ∷ []) start source.now (length target.old) }
+    ensures { IsStridedCopy N order (axis ∷ []) start source.now target.old target.new }
 {
     for number in 0..axis.count {
         let place = later(start, axis, number);
-        copy_element(size, order, place, source, target);
+        copy_element::<N>(order, place, source, target);
     }
 }
 
 /// Copies one element.
 #[inline(always)]
-fn copy_element(size: u64, order: Endian, start: Start, source: &[u8], target: &mut [u8])
-    requires { CanCopy size [] start source.now (length target.old) }
-    ensures { IsStridedCopy size order [] start source.now target.old target.new }
+fn copy_element<const N: usize>(order: Endian, start: Start, source: &[u8], target: &mut [u8])
+    requires { CanCopy N [] start source.now (length target.old) }
+    ensures { IsStridedCopy N order [] start source.now target.old target.new }
 {
-    let first = start.from * size;
-    let at = start.to * size;
-    copy_run(
-        size,
-        order,
-        source,
-        first as usize,
-        target,
-        at as usize,
-        size as usize,
-    );
+    let first = start.from * N as u64;
+    let at = start.to * N as u64;
+    copy_array::<N>(N as u64, order, source, first as usize, target, at as usize);
 }

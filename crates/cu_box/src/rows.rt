@@ -198,7 +198,7 @@ pub(crate) fn copy_run(
 
 /// The same for so few bytes that they are held as one number between the two buffers, and turned there.
 #[inline(always)]
-fn copy_array<const N: usize>(
+pub(crate) fn copy_array<const N: usize>(
     size: u64,
     order: Endian,
     source: &[u8],

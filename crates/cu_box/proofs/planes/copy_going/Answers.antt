@@ -12,11 +12,11 @@ same : (plane : Plane) (from to : Stride) → plane.inner.from ≡ from → plan
 same plane from to e f = ap (λ (x : Stride). made plane x to) (sym e) ∙ ap (λ (x : Stride). made plane plane.inner.from x) (sym f)
 
 pub copy_each_line-requires-clause-can : goal.copy_each_line-requires-clause-can
-copy_each_line-requires-clause-can c =
-    subst (λ (p : Plane). CanCopy c.args.size (plane_axes p) p.start c.args.source.now (length c.args.target.now))
+copy_each_line-requires-clause-can g c =
+    subst (λ (p : Plane). CanCopy g.row.N (plane_axes p) p.start c.args.source.now (length c.args.target.now))
     (sym (same c.args.plane c.args.from c.args.to c.requires.read c.requires.written)) c.requires.can
 
 pub returns : goal.returns
-returns c =
-    subst (λ (p : Plane). IsStridedCopy c.args.size c.args.order (plane_axes p) p.start c.args.source.now c.args.target.now c.copy_each_line.new.target)
+returns g c =
+    subst (λ (p : Plane). IsStridedCopy g.row.N c.args.order (plane_axes p) p.start c.args.source.now c.args.target.now c.copy_each_line.new.target)
     (same c.args.plane c.args.from c.args.to c.requires.read c.requires.written) c.copy_each_line.ensures

@@ -4,4 +4,4 @@ use Rattle.cu_box.specs.StridedSteps.{with_count}
 use Rattle.cu_box.proofs.planes.copy_line.Given as goal
 
 abbrev pub invariant-loop-number : goal.invariant-loop-number
-invariant-loop-number l = IsStridedCopy l.size l.order (with_count l.axis l.number ∷ []) l.start l.source l.fn.target l.target
+invariant-loop-number g l = IsStridedCopy g.row.N l.order (with_count l.axis l.number ∷ []) l.start l.source l.fn.target l.target

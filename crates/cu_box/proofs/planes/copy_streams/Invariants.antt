@@ -4,10 +4,10 @@ use Rattle.cu_box.specs.StridedSteps.{with_count}
 use Rattle.cu_box.proofs.planes.copy_streams.Given as goal
 
 abbrev pub decreases-loop-at : goal.decreases-loop-at
-decreases-loop-at l = l.plane.inner.count - l.at
+decreases-loop-at g l = l.plane.inner.count - l.at
 
 abbrev pub invariant-loop-at : goal.invariant-loop-at
-invariant-loop-at l = record {
+invariant-loop-at g l = record {
   within : l.at ≤ l.plane.inner.count;
-  copied : IsStridedCopy l.size l.order (with_count l.plane.inner l.at ∷ l.plane.outer ∷ []) l.plane.start l.source l.fn.target l.target;
+  copied : IsStridedCopy g.row.N l.order (with_count l.plane.inner l.at ∷ l.plane.outer ∷ []) l.plane.start l.source l.fn.target l.target;
 }

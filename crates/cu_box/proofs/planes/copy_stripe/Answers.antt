@@ -4,38 +4,38 @@ use Rattle.cu_box.proofs.StridedBlocks.{outer_can, outer_counts, outer_copied}
 use Rattle.cu_box.proofs.planes.copy_stripe.Goals as goal
 
 pub loop-at-init : goal.loop-at-init
-loop-at-init c = record {
+loop-at-init g c = record {
   within = omega arith;
-  copied = none_copied c.args.size c.args.order c.args.plane.outer (c.args.plane.inner ∷ []) c.args.plane.start c.args.source.now c.args.target.now;
+  copied = none_copied g.row.N c.args.order c.args.plane.outer (c.args.plane.inner ∷ []) c.args.plane.start c.args.source.now c.args.target.now;
 }
 
 pub outer_block-row-requires : goal.outer_block-row-requires
-outer_block-row-requires c =
-    start_of c.args.size c.args.plane.outer (c.args.plane.inner ∷ []) c.args.plane.start c.loop-at.at c.args.source.now (length c.args.target.now)
+outer_block-row-requires g c =
+    start_of g.row.N c.args.plane.outer (c.args.plane.inner ∷ []) c.args.plane.start c.loop-at.at c.args.source.now (length c.args.target.now)
     c.requires.can (one_axis c.args.plane.inner c.requires.some) c.loop-at-test.true (omega arith) (omega arith)
 
 pub copy_tiles-requires-clause-can : goal.copy_tiles-requires-clause-can
-copy_tiles-requires-clause-can c =
-    outer_can c.args.size c.args.plane c.outer_block-row.result c.loop-at.at c.min-count.result c.args.source.now (length c.args.target.now)
+copy_tiles-requires-clause-can g c =
+    outer_can g.row.N c.args.plane c.outer_block-row.result c.loop-at.at c.min-count.result c.args.source.now (length c.args.target.now)
     c.requires.can c.requires.some (omega arith) (omega arith) c.outer_block-row.ensures (length c.loop-at.target) c.loop-at.invariant.copied.same_length
 
 pub loop-at-preserved : goal.loop-at-preserved
-loop-at-preserved c = record {
+loop-at-preserved g c = record {
   within = omega arith;
-  copied = outer_copied c.args.size c.args.plane c.outer_block-row.result c.loop-at.at c.min-count.result c.args.source.now (length c.args.target.now)
+  copied = outer_copied g.row.N c.args.plane c.outer_block-row.result c.loop-at.at c.min-count.result c.args.source.now (length c.args.target.now)
       c.requires.can c.requires.some (omega arith) (omega arith) c.outer_block-row.ensures c.args.order c.args.target.now c.loop-at.target c.copy_tiles.new.target c.loop-at.invariant.copied c.copy_tiles.ensures;
 }
 
 pub returns : goal.returns
-returns c =
-    all_copied c.args.size c.args.order c.args.plane.outer (c.args.plane.inner ∷ []) c.args.plane.start c.loop-at.at c.args.source.now c.args.target.now c.loop-at.target (omega arith) c.loop-at.invariant.copied
+returns g c =
+    all_copied g.row.N c.args.order c.args.plane.outer (c.args.plane.inner ∷ []) c.args.plane.start c.loop-at.at c.args.source.now c.args.target.now c.loop-at.target (omega arith) c.loop-at.invariant.copied
 
 pub copy_tiles-requires-clause-rows : goal.copy_tiles-requires-clause-rows
-copy_tiles-requires-clause-rows c =
-    let n = outer_counts c.args.size c.args.plane c.outer_block-row.result c.loop-at.at c.min-count.result c.args.source.now (length c.args.target.now) c.requires.can c.requires.some (omega arith) (omega arith) c.outer_block-row.ensures in
+copy_tiles-requires-clause-rows g c =
+    let n = outer_counts g.row.N c.args.plane c.outer_block-row.result c.loop-at.at c.min-count.result c.args.source.now (length c.args.target.now) c.requires.can c.requires.some (omega arith) (omega arith) c.outer_block-row.ensures in
     omega (arith, n.0)
 
 pub copy_tiles-requires-clause-few_rows : goal.copy_tiles-requires-clause-few_rows
-copy_tiles-requires-clause-few_rows c =
-    let n = outer_counts c.args.size c.args.plane c.outer_block-row.result c.loop-at.at c.min-count.result c.args.source.now (length c.args.target.now) c.requires.can c.requires.some (omega arith) (omega arith) c.outer_block-row.ensures in
+copy_tiles-requires-clause-few_rows g c =
+    let n = outer_counts g.row.N c.args.plane c.outer_block-row.result c.loop-at.at c.min-count.result c.args.source.now (length c.args.target.now) c.requires.can c.requires.some (omega arith) (omega arith) c.outer_block-row.ensures in
     omega (arith, n.0)

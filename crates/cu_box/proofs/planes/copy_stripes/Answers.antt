@@ -4,34 +4,34 @@ use Rattle.cu_box.proofs.StridedBlocks.{inner_can, inner_counts, inner_copied, c
 use Rattle.cu_box.proofs.planes.copy_stripes.Goals as goal
 
 pub loop-at-init : goal.loop-at-init
-loop-at-init c = record {
+loop-at-init g c = record {
   within = omega arith;
-  copied = none_copied c.args.size c.args.order c.args.plane.inner (c.args.plane.outer ∷ []) c.args.plane.start c.args.source.now c.args.target.now;
+  copied = none_copied g.row.N c.args.order c.args.plane.inner (c.args.plane.outer ∷ []) c.args.plane.start c.args.source.now c.args.target.now;
 }
 
 pub inner_block-stripe-requires : goal.inner_block-stripe-requires
-inner_block-stripe-requires c =
-    start_of c.args.size c.args.plane.inner (c.args.plane.outer ∷ []) c.args.plane.start c.loop-at.at c.args.source.now (length c.args.target.now)
-    (can_exchanged c.args.size c.args.plane.outer c.args.plane.inner c.args.plane.start c.args.source.now (length c.args.target.now) c.requires.can) (one_axis c.args.plane.outer c.requires.rows) c.loop-at-test.true (omega arith) (omega arith)
+inner_block-stripe-requires g c =
+    start_of g.row.N c.args.plane.inner (c.args.plane.outer ∷ []) c.args.plane.start c.loop-at.at c.args.source.now (length c.args.target.now)
+    (can_exchanged g.row.N c.args.plane.outer c.args.plane.inner c.args.plane.start c.args.source.now (length c.args.target.now) c.requires.can) (one_axis c.args.plane.outer c.requires.rows) c.loop-at-test.true (omega arith) (omega arith)
 
 pub copy_stripe-requires-clause-can : goal.copy_stripe-requires-clause-can
-copy_stripe-requires-clause-can c =
-    inner_can c.args.size c.args.plane c.inner_block-stripe.result c.loop-at.at c.min-count.result c.args.source.now (length c.args.target.now)
+copy_stripe-requires-clause-can g c =
+    inner_can g.row.N c.args.plane c.inner_block-stripe.result c.loop-at.at c.min-count.result c.args.source.now (length c.args.target.now)
     c.requires.can c.requires.rows (omega arith) (omega arith) c.inner_block-stripe.ensures (length c.loop-at.target) c.loop-at.invariant.copied.same_length
 
 pub loop-at-preserved : goal.loop-at-preserved
-loop-at-preserved c = record {
+loop-at-preserved g c = record {
   within = omega arith;
-  copied = inner_copied c.args.size c.args.plane c.inner_block-stripe.result c.loop-at.at c.min-count.result c.args.source.now (length c.args.target.now)
+  copied = inner_copied g.row.N c.args.plane c.inner_block-stripe.result c.loop-at.at c.min-count.result c.args.source.now (length c.args.target.now)
       c.requires.can c.requires.rows (omega arith) (omega arith) c.inner_block-stripe.ensures c.args.order c.args.target.now c.loop-at.target c.copy_stripe.new.target c.loop-at.invariant.copied c.copy_stripe.ensures;
 }
 
 pub returns : goal.returns
-returns c =
-    copied_exchanged c.args.size c.args.order c.args.plane.inner c.args.plane.outer c.args.plane.start c.args.source.now c.args.target.now c.loop-at.target
-    (all_copied c.args.size c.args.order c.args.plane.inner (c.args.plane.outer ∷ []) c.args.plane.start c.loop-at.at c.args.source.now c.args.target.now c.loop-at.target (omega arith) c.loop-at.invariant.copied)
+returns g c =
+    copied_exchanged g.row.N c.args.order c.args.plane.inner c.args.plane.outer c.args.plane.start c.args.source.now c.args.target.now c.loop-at.target
+    (all_copied g.row.N c.args.order c.args.plane.inner (c.args.plane.outer ∷ []) c.args.plane.start c.loop-at.at c.args.source.now c.args.target.now c.loop-at.target (omega arith) c.loop-at.invariant.copied)
 
 pub copy_stripe-requires-clause-some : goal.copy_stripe-requires-clause-some
-copy_stripe-requires-clause-some c =
-    let n = inner_counts c.args.size c.args.plane c.inner_block-stripe.result c.loop-at.at c.min-count.result c.args.source.now (length c.args.target.now) c.requires.can c.requires.rows (omega arith) (omega arith) c.inner_block-stripe.ensures in
+copy_stripe-requires-clause-some g c =
+    let n = inner_counts g.row.N c.args.plane c.inner_block-stripe.result c.loop-at.at c.min-count.result c.args.source.now (length c.args.target.now) c.requires.can c.requires.rows (omega arith) (omega arith) c.inner_block-stripe.ensures in
     omega (arith, n.1)
