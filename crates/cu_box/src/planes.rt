@@ -13,6 +13,9 @@ use cu_num::Endian;
 /// A turned plane of so few rows is copied in stretches of rows.
 const MOST_STREAMS: u64 = 16;
 
+/// Rows of fewer elements are not worth a tile.
+const FEW: u64 = 8;
+
 /// The elements of such a stretch.
 const STRETCH: u64 = 1024;
 
@@ -99,7 +102,7 @@ fn copy_sized<const N: usize>(
         copy_rows_of::<N>(order, plane, source, target);
     } else if plane.outer.count <= MOST_STREAMS {
         copy_streams::<N>(order, plane, source, target);
-    } else if is_near(N as u64, plane) {
+    } else if plane.inner.count < FEW || is_near(N as u64, plane) {
         copy_lines::<N>(order, plane, source, target);
     } else {
         copy_stripes::<N>(order, plane, source, target, held);
