@@ -1,5 +1,5 @@
 -- The plan that is left has no more operations, tasks and chunks; and its result is there.
-use Rattle.std.proofs.Common.{◌≡◌, inl, inr, ℕ, zero, suc, ◌+◌, ◌<◌, ◌≤◌, ◌^◌, true, List, [], ◌∷◌, ◌++◌, Contains, length, map, Option, Some, None, refl, ap, sym, ◌∙◌, subst, arith, ⊎_elim, if◌then◌else◌}
+use Rattle.std.proofs.Common.{◌≡◌, inl, inr, ℕ, zero, suc, ◌+◌, ◌<◌, ◌≤◌, ◌^◌, Bool, true, List, [], ◌∷◌, ◌++◌, Contains, length, map, Option, Some, None, refl, ap, sym, ◌∙◌, subst, arith, ⊎_elim, if◌then◌else◌}
 use Rattle.std.specs.Prelude.{sum_by}
 use Rattle.std.proofs.lemmas.Bool.{cases_Bool}
 use Rattle.std.proofs.lemmas.List.{length-map}
@@ -11,12 +11,12 @@ use Rattle.cu_op.specs.declared.operation.Op.{Op}
 use Rattle.cu_op.specs.declared.operation.Op.TheVariants.{Map}
 use Rattle.cu_op.specs.declared.operation.Planned.{Planned}
 use Rattle.cu_op.specs.Arrays.{array_at, maker_at, grid_counts, array_chunk_count}
-use Rattle.cu_op.specs.Cells.{tasks_of, task_grid}
+use Rattle.cu_op.specs.Cells.{tasks_of}
 use Rattle.cu_op.specs.Operation.{writes_of, renumbered}
 use Rattle.cu_op.specs.PlanView.{PlanView}
 use Rattle.cu_op.specs.Sound.{Sound, cells_by, made_chunks}
-use Rattle.cu_fuse.specs.Close.{remains, remaining_from, remaining_numbers, remaining_array, remaining_arrays, count_behind, renumbered_planned, new_number, closed, fused, setting_of, HasMadeNames}
-use Rattle.cu_fuse.specs.Fused.{SettingView, fused_ops, map_inputs, joint}
+use Rattle.cu_fuse.specs.Close.{remains, remaining_from, remaining_numbers, remaining_array, remaining_arrays, count_behind, renumbered_planned, new_number, closed, fused_by, setting_by, setting_of, HasMadeNames}
+use Rattle.cu_fuse.specs.Fused.{SettingView, fused_ops, loaded_ops, map_inputs, joint, with_one_load}
 use Rattle.cu_fuse.specs.Merge.{merged_op}
 use Rattle.cu_fuse.specs.Runs.{HasWriter}
 use Rattle.cu_fuse.proofs.Closing.{renumbered_tasks}
@@ -26,7 +26,9 @@ use Rattle.cu_fuse.proofs.ClosedValue.{AreLeft, all_left, left_written}
 use Rattle.cu_fuse.proofs.FromSound.{fused_sound, written_at}
 use Rattle.cu_fuse.proofs.Fusing.{Step, all_keep}
 use Rattle.cu_fuse.proofs.LeftArrays.{kept_layout, placed_once, within, numbers_in}
+use Rattle.cu_fuse.proofs.Loaded.{loaded_has, written_once}
 use Rattle.cu_fuse.proofs.Running.{written_left, written_right, written_parts}
+use Rattle.cu_fuse.proofs.Same.{one_load_does}
 
 -- the sum over what is left of a step
 module _ (s : SettingView) (f : Planned → ℕ) (a : ℕ) (old new : List Planned) (t : Step s a old new) (same : f (joint s t.maker t.reader a) ≡ f t.reader) where
@@ -44,11 +46,32 @@ module _ (s : SettingView) (f : Planned → ℕ) (a : ℕ) (old new : List Plann
       omega (arith, ends, maker, middle, reader, first, second, third, before, after, same)
 
 -- the joint operation goes over the reader's tasks, and writes what the reader writes
-joint_out : (s : SettingView) (a : ℕ) (old new : List Planned) (t : Step s a old new) → (writes_of (joint s t.maker t.reader a).op ≡ writes_of t.reader.op) × (task_grid s.arrays (joint s t.maker t.reader a).op ≡ task_grid s.arrays t.reader.op)
+joint_out : (s : SettingView) (a : ℕ) (old new : List Planned) (t : Step s a old new) → (writes_of (joint s t.maker t.reader a).op ≡ writes_of t.reader.op) × (tasks_of s.arrays (joint s t.maker t.reader a).op ≡ tasks_of s.arrays t.reader.op)
 joint_out s a old new t =
-    let i = t.merged.op in
-    let both : (joint s t.maker t.reader a).op ≡ merged_op (Map t.joins.inner t.joins.inner_ins a) (Map t.joins.outer t.joins.outer_ins t.joins.out) t.j = i ∙ (λ k. merged_op (t.joins.makes k) (t.joins.takes k) t.j) in
-    (ap writes_of both ∙ sym (ap writes_of t.joins.takes), ap (task_grid s.arrays) both ∙ sym (ap (task_grid s.arrays) t.joins.takes))
+    let same = t.merged.same in
+    let both : merged_op t.maker.op t.reader.op t.j ≡ merged_op (Map t.joins.inner t.joins.inner_ins a) (Map t.joins.outer t.joins.outer_ins t.joins.out) t.j = (λ k. merged_op (t.joins.makes k) (t.joins.takes k) t.j) in (
+      same.writes ∙ ap writes_of both ∙ sym (ap writes_of t.joins.takes),
+      same.tasks ∙ ap (tasks_of s.arrays) both ∙ sym (ap (tasks_of s.arrays) t.joins.takes),
+    )
+
+-- ---- what one load of each array keeps
+
+tasks_once : (s : SettingView) (ops : List Planned) → sum_by (λ o. tasks_of s.arrays o.op) (map (with_one_load s) ops) ≡ sum_by (λ o. tasks_of s.arrays o.op) ops
+tasks_once s [] = refl
+tasks_once s (o ∷ os) =
+    let own = (one_load_does s.arrays o.op).tasks in
+    let more = tasks_once s os in
+    let a = sum_by-cons (λ (x : Planned). tasks_of s.arrays x.op) (with_one_load s o) (map (with_one_load s) os) in
+    let b = sum_by-cons (λ (x : Planned). tasks_of s.arrays x.op) o os in
+    omega (arith, own, more, a, b)
+
+count_once : (s : SettingView) (ops : List Planned) → sum_by (λ o. 1) (map (with_one_load s) ops) ≡ sum_by (λ o. 1) ops
+count_once s [] = refl
+count_once s (o ∷ os) =
+    let more = count_once s os in
+    let a = sum_by-cons (λ (x : Planned). 1) (with_one_load s o) (map (with_one_load s) os) in
+    let b = sum_by-cons (λ (x : Planned). 1) o os in
+    omega (arith, more, a, b)
 
 -- ---- what a merge keeps
 
@@ -57,20 +80,21 @@ module _ (s : SettingView) (room : s.allowed < 2 ^ 64) where
   tasks_kept ops n h =
       all_keep s (λ l. sum_by (λ o. tasks_of s.arrays o.op) l ≤ n) room
       (λ a old new t few.
-      let same : tasks_of s.arrays (joint s t.maker t.reader a).op ≡ tasks_of s.arrays t.reader.op = ap (λ (g : RegularGrid). product (grid_counts g)) (joint_out s a old new t).1 in
-      let l = fewer s (λ (o : Planned). tasks_of s.arrays o.op) a old new t same in omega (arith, l, few))
-      (map_inputs ops) ops h
+      let l = fewer s (λ (o : Planned). tasks_of s.arrays o.op) a old new t (joint_out s a old new t).1 in omega (arith, l, few))
+      (map_inputs (loaded_ops s ops)) (loaded_ops s ops)
+      (loaded_has s (λ l. sum_by (λ o. tasks_of s.arrays o.op) l ≤ n) ops h (let e = tasks_once s ops in omega (arith, e, h)))
 
   pub count_kept : (ops : List Planned) (n : ℕ) → sum_by (λ o. 1) ops ≤ n → sum_by (λ o. 1) (fused_ops s ops) ≤ n
   count_kept ops n h =
-      all_keep s (λ l. sum_by (λ o. 1) l ≤ n) room (λ a old new t few. let l = fewer s (λ (o : Planned). 1) a old new t refl in omega (arith, l, few)) (map_inputs ops) ops h
+      all_keep s (λ l. sum_by (λ o. 1) l ≤ n) room (λ a old new t few. let l = fewer s (λ (o : Planned). 1) a old new t refl in omega (arith, l, few))
+      (map_inputs (loaded_ops s ops)) (loaded_ops s ops) (loaded_has s (λ l. sum_by (λ o. 1) l ≤ n) ops h (let e = count_once s ops in omega (arith, e, h)))
 
   pub written_kept : (ops : List Planned) → HasWriter ops s.out → HasWriter (fused_ops s ops) s.out
   written_kept ops h =
       all_keep s (λ l. HasWriter l s.out) room
       (λ a old new t w.
       subst (λ (l : List Planned). HasWriter l s.out) (sym t.after) (on a old new t (subst (λ (l : List Planned). HasWriter l s.out) t.before w)))
-      (map_inputs ops) ops h
+      (map_inputs (loaded_ops s ops)) (loaded_ops s ops) (loaded_has s (λ l. HasWriter l s.out) ops h (written_once s ops s.out h))
     where
       reader_part : (a : ℕ) (old new : List Planned) (t : Step s a old new) → HasWriter (t.reader ∷ t.behind) s.out → HasWriter (joint s t.maker t.reader a ∷ t.behind) s.out
       reader_part a old new t (inl h) = inl (subst (λ (l : List ℕ). Contains l s.out) (sym (joint_out s a old new t).0) h)
@@ -140,24 +164,24 @@ module _ (p : PlanView) (ops : List Planned) where
       later i h = ap (array_at p.arrays) (let z : n + 1 + i ≡ n + suc i = omega arith in z) ∙ same (suc i) (omega arith)
 
 -- the result is left: an input stays, and what an operation wrote is written still
-pub out_stays : (p : PlanView) → Sound p → p.allowed < 2 ^ 64 → Contains (remaining_numbers p.arrays (fused_ops (setting_of p) p.ops)) p.out
-out_stays p sound room = numbers_in p ops p.out sound.out (go (maker_at p.arrays p.out) refl)
+pub out_stays : (once : Bool) (p : PlanView) → Sound p → p.allowed < 2 ^ 64 → Contains (remaining_numbers p.arrays (fused_ops (setting_by once p) p.ops)) p.out
+out_stays once p sound room = numbers_in p ops p.out sound.out (go (maker_at p.arrays p.out) refl)
   where
     ops : List Planned
-    ops = fused_ops (setting_of p) p.ops
+    ops = fused_ops (setting_by once p) p.ops
 
     go : (m : Option ℕ) → maker_at p.arrays p.out ≡ m → remains ops p.out (maker_at p.arrays p.out) ≡ true
     go None e = ap (remains ops p.out) e
     go (Some k) e =
         let (l, w) = sound.makers p.out k sound.out e in
-        left_written ops p.out (maker_at p.arrays p.out) (written_kept (setting_of p) room p.ops (written_at p.ops k p.out l w))
+        left_written ops p.out (maker_at p.arrays p.out) (written_kept (setting_by once p) room p.ops (written_at p.ops k p.out l w))
 
 -- a plan is sound after the merges of its maps
-pub fused_is_sound : (p : PlanView) → Sound p → HasMadeNames p → p.allowed < 2 ^ 64 → Sound (fused p)
-fused_is_sound p sound names room =
-    let s : SettingView = setting_of p in
+pub fused_is_sound : (once : Bool) (p : PlanView) → Sound p → HasMadeNames p → p.allowed < 2 ^ 64 → Sound (fused_by once p)
+fused_is_sound once p sound names room =
+    let s : SettingView = setting_by once p in
     let ops : List Planned = fused_ops s p.ops in
-    let run = (fused_sound p (λ a idx. None) sound room).0 in
+    let run = (fused_sound once p (λ a idx. None) sound room).0 in
     let left = all_left p ops [] ops refl run in
     let few = closed_few p ops sound names in
     let count : length ops ≤ length p.ops = (let c = count_kept s room p.ops (length p.ops) (let l = length_is p.ops in omega (arith, l)) in let l = length_is ops in omega (arith, c, l)) in
@@ -170,7 +194,7 @@ fused_is_sound p sound names room =
       makers = makers p ops sound run;
       arrays = arrays_are p ops sound names;
       keys = keys_are p ops sound names;
-      out = within p ops p.out (out_stays p sound room);
+      out = within p ops p.out (out_stays once p sound room);
       array_count = omega (arith, few, all_arrays);
       operation_count = (let l = length-map ops (renumbered_planned (new_number (setting_of p) ops)) in omega (arith, l, count, all_ops));
       input_chunks = inputs_are p ops sound names;

@@ -1,5 +1,5 @@
 -- The values of a plan that is left after merges are those of the plan.
-use Rattle.std.proofs.Common.{◌≡◌, ◌⊎◌, inl, inr, ℕ, zero, suc, ◌<◌, ◌^◌, true, List, [], ◌∷◌, ◌++◌, All, Contains, length, map, Option, Some, None, get_or, refl, ap, sym, ◌∙◌, subst, arith, append_assoc, ⊎_elim, ℤ}
+use Rattle.std.proofs.Common.{◌≡◌, ◌⊎◌, inl, inr, ℕ, zero, suc, ◌<◌, ◌^◌, Bool, true, List, [], ◌∷◌, ◌++◌, All, Contains, length, map, Option, Some, None, get_or, refl, ap, sym, ◌∙◌, subst, arith, append_assoc, ⊎_elim, ℤ}
 use Rattle.std.proofs.lemmas.Option.{get_or_from_slice_get}
 use Rattle.std.proofs.lemmas.List.Elements.{All-contains}
 use Rattle.cu_shape.specs.Index.{IsInside}
@@ -14,7 +14,7 @@ use Rattle.cu_op.specs.Elements.{Elements}
 use Rattle.cu_op.specs.Value.{rule, plan_value}
 use Rattle.cu_op.proofs.Members.{contains_any}
 use Rattle.cu_op.proofs.Values.{value_solves}
-use Rattle.cu_fuse.specs.Close.{renumbered_planned, remaining_numbers, new_number, closed, fused, setting_of, remains, has_maker}
+use Rattle.cu_fuse.specs.Close.{renumbered_planned, remaining_numbers, new_number, closed, fused_by, setting_by, setting_of, remains, has_maker}
 use Rattle.std.proofs.lemmas.Bool.{cases_Bool}
 use Rattle.cu_fuse.specs.Fused.{fused_ops, stands_in}
 use Rattle.cu_fuse.specs.Runs.{HasWriter, CanRun, AreMade}
@@ -123,9 +123,9 @@ closed_value p ops env sound again run made a idx c inside =
     (new_number (setting_of p) ops a) idx (within p ops a c) there) ∙ e
 
 -- so the value of the result of a plan is that of the plan after its merges
-pub fused_value : (p : PlanView) (env : Elements) → Sound p → p.allowed < 2 ^ 64 → Sound (fused p) → (a : ℕ) (idx : List ℕ)
-    → Contains (remaining_numbers p.arrays (fused_ops (setting_of p) p.ops)) a → IsInside (grid_at p.arrays a).shape idx
-    → plan_value (fused p) (λ b. env (old_number (remaining_numbers p.arrays (fused_ops (setting_of p) p.ops)) b)) (new_number (setting_of p) (fused_ops (setting_of p) p.ops) a) idx ≡ plan_value p env a idx
-fused_value p env sound room again a idx c inside =
-    let (run, made) = fused_sound p env sound room in
-    closed_value p (fused_ops (setting_of p) p.ops) env sound again run made a idx c inside
+pub fused_value : (once : Bool) (p : PlanView) (env : Elements) → Sound p → p.allowed < 2 ^ 64 → Sound (fused_by once p) → (a : ℕ) (idx : List ℕ)
+    → Contains (remaining_numbers p.arrays (fused_ops (setting_by once p) p.ops)) a → IsInside (grid_at p.arrays a).shape idx
+    → plan_value (fused_by once p) (λ b. env (old_number (remaining_numbers p.arrays (fused_ops (setting_by once p) p.ops)) b)) (new_number (setting_of p) (fused_ops (setting_by once p) p.ops) a) idx ≡ plan_value p env a idx
+fused_value once p env sound room again a idx c inside =
+    let (run, made) = fused_sound once p env sound room in
+    closed_value p (fused_ops (setting_by once p) p.ops) env sound again run made a idx c inside

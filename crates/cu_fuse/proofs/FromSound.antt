@@ -1,5 +1,5 @@
 -- The operations of a sound plan can run, and its values are what each makes of them.
-use Rattle.std.proofs.Common.{◌≡◌, ◌⊎◌, inl, inr, ℕ, zero, suc, ◌<◌, ◌^◌, List, [], ◌∷◌, ◌++◌, Contains, length, Option, Some, None, get_or, refl, ap, sym, ◌∙◌, subst, arith, append_assoc, length-append}
+use Rattle.std.proofs.Common.{◌≡◌, ◌⊎◌, inl, inr, ℕ, zero, suc, ◌<◌, ◌^◌, Bool, List, [], ◌∷◌, ◌++◌, Contains, length, Option, Some, None, get_or, refl, ap, sym, ◌∙◌, subst, arith, append_assoc, length-append}
 use Rattle.std.proofs.Math.Seq.{get_or-append_seam}
 use Rattle.std.proofs.lemmas.List.{get_or_append_left}
 use Rattle.std.proofs.lemmas.List.Elements.{All-contains}
@@ -11,7 +11,7 @@ use Rattle.cu_op.specs.Sound.{Sound, IsOperation}
 use Rattle.cu_op.specs.Elements.{Elements}
 use Rattle.cu_op.specs.Value.{rule, plan_value}
 use Rattle.cu_op.proofs.Values.{one_maker, value_solves}
-use Rattle.cu_fuse.specs.Close.{setting_of}
+use Rattle.cu_fuse.specs.Close.{setting_by}
 use Rattle.cu_fuse.specs.Fused.{fused_ops}
 use Rattle.cu_fuse.specs.Runs.{HasWriter, CanFollow, CanRun, AreMade}
 use Rattle.cu_fuse.proofs.Fusing.{fused_runs}
@@ -84,6 +84,6 @@ module _ (p : PlanView) (sound : Sound p) where
   )
 
 -- the merged list of a sound plan can run, and the plan's values are what it makes
-pub fused_sound : (p : PlanView) (env : Elements) → Sound p → p.allowed < 2 ^ 64
-    → CanRun p.arrays p.reserved [] (fused_ops (setting_of p) p.ops) × AreMade p.arrays (plan_value p env) (fused_ops (setting_of p) p.ops)
-fused_sound p env sound room = fused_runs (setting_of p) p.ops (plan_value p env) room (sound_runs p sound [] p.ops refl) (sound_made p sound env [] p.ops refl)
+pub fused_sound : (once : Bool) (p : PlanView) (env : Elements) → Sound p → p.allowed < 2 ^ 64
+    → CanRun p.arrays p.reserved [] (fused_ops (setting_by once p) p.ops) × AreMade p.arrays (plan_value p env) (fused_ops (setting_by once p) p.ops)
+fused_sound once p env sound room = fused_runs (setting_by once p) p.ops (plan_value p env) room (sound_runs p sound [] p.ops refl) (sound_made p sound env [] p.ops refl)

@@ -17,29 +17,16 @@ use Rattle.cu_op.specs.Operation.{reads_of, writes_of, target_of}
 use Rattle.cu_op.specs.Projection.{instruction_count}
 use Rattle.cu_op.specs.Elements.{Elements}
 use Rattle.cu_op.proofs.Members.{any_contains, contains_any}
-use Rattle.cu_fuse.specs.Fused.{SettingView, is_map, stands_in, is_reader, stands_once, same_grid, joint_op, joint, are_maps, is_between, has_one_reader, has_grid_of, is_small, may_merge, into_reader, merged_away, map_inputs, merged_all, fused_ops}
+use Rattle.cu_fuse.specs.Fused.{SettingView, is_map, stands_in, is_reader, stands_once, same_grid, joint_op, joint, are_maps, is_between, has_one_reader, has_grid_of, is_small, may_merge, into_reader, merged_away, loaded_ops, map_inputs, merged_all, fused_ops}
 use Rattle.cu_op.specs.Numbers.{number_in}
-use Rattle.cu_fuse.specs.Merge.{Joins, IsMerged}
+use Rattle.cu_fuse.specs.Merge.{Joins, merged_op}
 use Rattle.cu_fuse.specs.Runs.{HasReader, CanRun, AreMade}
-use Rattle.cu_fuse.proofs.Running.{merge_runs, merge_made}
+use Rattle.cu_fuse.proofs.Distinct.{at_place, stands}
+use Rattle.cu_fuse.proofs.Loaded.{loaded_has, made_once, runs_once}
+use Rattle.cu_fuse.proofs.Running.{IsJoint, merge_runs, merge_made}
+use Rattle.cu_fuse.proofs.Same.{loaded_does}
 
 -- ---- a number in a list
-
-pub at_place : (xs : List ℕ) (a : ℕ) → stands_in xs a ≡ true → slice_get xs (number_in xs a) ≡ Some a
-at_place [] a h = cc
-at_place (x ∷ xs) a h = elim (eqb_tells x a) [
-  | inl p ↦ rw p.0 (ap Some p.1)
-  | inr p ↦ rw p.0 (at_place xs a (rw p.0 at h))
-]
-
-pub stands : (xs : List ℕ) (a k : ℕ) → slice_get xs k ≡ Some a → stands_in xs a ≡ true
-stands [] a zero e = cc
-stands [] a (suc k) e = cc
-stands (x ∷ xs) a zero e = elim (eqb_tells x a) [ inl p ↦ rw p.0 refl | inr p ↦ absurd (p.1 (same_some x a e)) ]
-  where
-    same_some : (x y : ℕ) → Some x ≡ Some y → x ≡ y
-    same_some x y e = cc
-stands (x ∷ xs) a (suc k) e = let rest = stands xs a k e in elim (eqb_tells x a) [ inl p ↦ rw p.0 refl | inr p ↦ rw p.0 rest ]
 
 -- it stands nowhere else
 once_alone : (xs : List ℕ) (a k : ℕ) → stands_in (drop (number_in xs a + 1) xs) a ≡ false → k ≢ number_in xs a → slice_get xs k ≡ Some a → ⊥
@@ -98,8 +85,8 @@ pub record Tested (s : SettingView) (maker reader : Planned) (behind : List Plan
   pub once : not (stands_in (drop (number_in (reads_of reader.op) a + 1) (reads_of reader.op)) a) ≡ true
   pub alone : not (list_any (is_reader a) behind) ≡ true
   pub grid : same_grid (grid_at s.arrays a) (grid_at s.arrays (target_of reader.op)) ≡ true
-  pub inputs : nat_le (length (reads_of (joint_op maker reader a))) 8 ≡ true
-  pub instructions : nat_le (instruction_count (joint_op maker reader a)) 32 ≡ true
+  pub inputs : nat_le (length (reads_of (joint_op s maker reader a))) 8 ≡ true
+  pub instructions : nat_le (instruction_count (joint_op s maker reader a)) 32 ≡ true
   pub allowed : nat_le (joint s maker reader a).projected s.allowed ≡ true
 
 pub tested : (s : SettingView) (maker reader : Planned) (behind : List Planned) (a : ℕ) → may_merge s maker reader behind a ≡ true → Tested s maker reader behind a
@@ -111,8 +98,8 @@ tested s maker reader behind a may =
     let maps = and_parts (is_map maker.op) (is_map reader.op) p1.0 in
     let one = and_parts (stands_once (reads_of reader.op) a) (not (list_any (is_reader a) behind)) p3.0 in
     let once = and_parts (stands_in (reads_of reader.op) a) (not (stands_in (drop (number_in (reads_of reader.op) a + 1) (reads_of reader.op)) a)) one.0 in
-    let small = and_parts (nat_le (length (reads_of (joint_op maker reader a))) 8) _ p4.1 in
-    let rest = and_parts (nat_le (instruction_count (joint_op maker reader a)) 32) (nat_le (joint s maker reader a).projected s.allowed) small.1 in
+    let small = and_parts (nat_le (length (reads_of (joint_op s maker reader a))) 8) _ p4.1 in
+    let rest = and_parts (nat_le (instruction_count (joint_op s maker reader a)) 32) (nat_le (joint s maker reader a).projected s.allowed) small.1 in
     record {
       makes = maps.0;
       takes = maps.1;
@@ -137,7 +124,7 @@ pub record Step (s : SettingView) (array : ℕ) (old new : List Planned) : Type 
   pub before : old ≡ front ++ (maker ∷ (between ++ (reader ∷ behind)))
   pub after : new ≡ front ++ (between ++ (joint s maker reader array ∷ behind))
   pub joins : Joins s.arrays (record { maker = maker; between = between; reader = reader; behind = behind }) array j
-  pub merged : IsMerged s.arrays s.reserved maker reader (joint s maker reader array) j
+  pub merged : IsJoint s.arrays s.reserved maker reader (joint s maker reader array) j
   pub allowed : (joint s maker reader array).projected ≤ s.allowed
   pub kept : array ≢ s.out
 
@@ -175,7 +162,7 @@ module _ (s : SettingView) (room : s.allowed < 2 ^ 64) (a : ℕ) where
           behind_apart = not_read behind a (not_true _ t.alone);
           grid = grids_equal (grid_at s.arrays a) (grid_at s.arrays (target_of reader.op)) t.grid ∙ ap (λ (o : Op). grid_at s.arrays (target_of o)) r;
         };
-        merged = record { op = refl; node = refl; projected = refl; room = omega arith };
+        merged = record { same = loaded_does s.arrays s.once (merged_op maker.op reader.op j); projected = refl; room = omega arith };
         allowed = few;
         kept = λ e. elim (eqb_tells a s.out) [ inl p ↦ let f = not_true (a == s.out) t.between in let y = p.0 in cc | inr p ↦ p.1 e ];
       }
@@ -275,4 +262,5 @@ fused_runs s ops at room runs made =
       subst (CanRun s.arrays s.reserved []) (sym t.after) (merge_runs s.arrays s.reserved t.front t.between t.behind t.maker t.reader (joint s t.maker t.reader a) a t.j t.joins t.merged run),
       subst (AreMade s.arrays at) (sym t.after) (merge_made s.arrays s.reserved t.front t.between t.behind t.maker t.reader (joint s t.maker t.reader a) a t.j t.joins t.merged run at are),
     ))
-    (map_inputs ops) ops (runs, made)
+    (map_inputs (loaded_ops s ops)) (loaded_ops s ops)
+    (loaded_has s (λ l. CanRun s.arrays s.reserved [] l × AreMade s.arrays at l) ops (runs, made) (runs_once s [] ops runs, made_once s at [] ops runs made))

@@ -8,7 +8,7 @@ use Rattle.cu_op.specs.declared.operation.Planned.{Planned}
 use Rattle.cu_op.specs.Arrays.{array_at, maker_at}
 use Rattle.cu_op.specs.PlanView.{PlanView}
 use Rattle.cu_fuse.specs.Close.{remains, remaining_from, remaining_numbers, maker_of, remaining_array, count_behind, remaining_arrays, new_number, closed, setting_of}
-use Rattle.cu_fuse.proofs.Fusing.{at_place}
+use Rattle.cu_fuse.proofs.Distinct.{at_place}
 use Rattle.cu_op.proofs.Members.{contains_any}
 
 -- ---- which numbers are left

@@ -1,5 +1,11 @@
 pub mod Splicing
 pub mod Merging
+pub mod Distinct
+pub mod LoadingOnce
+pub mod Same
+pub mod Loaded
+pub mod LoadedOnce
+pub mod Joining
 pub mod Running
 pub mod Closing
 pub mod Fusing
@@ -10,6 +16,7 @@ pub mod ClosedValue
 pub mod ClosedSound
 pub mod ClosedNames
 pub mod ClosedCounts
+pub mod ClosedAlike
 pub mod FusedPlans
 pub mod SmallNumbers
 pub mod Scanning

@@ -136,8 +136,8 @@ rule_met s maker reader behind a m =
     let alone = ap not (zero_unread behind a rest) in
     let other : not (a == s.out) ≡ true = elim (eqb_tells a s.out) [ inl p ↦ absurd (m.between p.1) | inr p ↦ ap not p.0 ] in
     let grid : same_grid (grid_at s.arrays a) (grid_at s.arrays (target_of reader.op)) ≡ true = grids_same (grid_at s.arrays a) (grid_at s.arrays (target_of reader.op)) m.grid in
-    let inputs : nat_le (length (reads_of (joint_op maker reader a))) 8 ≡ true = le_true _ 8 m.inputs in
-    let instructions : nat_le (instruction_count (joint_op maker reader a)) 32 ≡ true = le_true _ 32 m.instructions in
+    let inputs : nat_le (length (reads_of (joint_op s maker reader a))) 8 ≡ true = le_true _ 8 m.inputs in
+    let instructions : nat_le (instruction_count (joint_op s maker reader a)) 32 ≡ true = le_true _ 32 m.instructions in
     let allowed : nat_le (joint s maker reader a).projected s.allowed ≡ true = le_true _ s.allowed m.allowed in
     λ i. (m.makes i && m.takes i) && (other i && ((once i && alone i) && (grid i && (inputs i && (instructions i && allowed i)))))
   where

@@ -1,5 +1,5 @@
 -- One merge in a list of operations: the list can run, and the elements are those that they were.
-use Rattle.std.proofs.Common.{◌≡◌, ◌≢◌, ◌⊎◌, inl, inr, ℕ, zero, suc, ◌+◌, ◌<◌, List, [], ◌∷◌, ◌++◌, All, Contains, length, take, drop, Some, None, get_or, refl, ap, sym, ◌∙◌, subst, arith, append_assoc, append-nil, length-drop, ⊎_elim, length-take-le}
+use Rattle.std.proofs.Common.{◌≡◌, ◌≢◌, ◌⊎◌, inl, inr, ℕ, zero, suc, ◌+◌, ◌<◌, ◌^◌, List, [], ◌∷◌, ◌++◌, All, Contains, length, take, drop, Some, None, get_or, refl, ap, sym, ◌∙◌, subst, arith, append_assoc, append-nil, length-drop, ⊎_elim, length-take-le}
 use Rattle.std.specs.List.{slice_get}
 use Rattle.std.proofs.lemmas.List.{get_or-take, get_or-drop}
 use Rattle.std.proofs.lemmas.List.Elements.{All-append}
@@ -12,12 +12,14 @@ use Rattle.cu_op.specs.declared.operation.Op.TheVariants.{Map}
 use Rattle.cu_op.specs.declared.operation.Planned.{Planned}
 use Rattle.cu_op.specs.Arrays.{grid_at, maker_at}
 use Rattle.cu_op.specs.Operation.{reads_of, writes_of, Fits}
+use Rattle.cu_op.specs.Projection.{projection}
 use Rattle.cu_op.specs.Elements.{Elements}
 use Rattle.cu_op.specs.Value.{rule}
 use Rattle.cu_fuse.specs.Merge.{merged_op, Joins, IsMerged}
 use Rattle.cu_fuse.specs.Runs.{HasWriter, HasReader, IsAtHand, IsNew, CanFollow, CanRun, IsMade, AreMade}
 use Rattle.cu_fuse.specs.Splice.{put_in}
 use Rattle.cu_fuse.proofs.Merging.{IsMerge, merged_value, merged_fits}
+use Rattle.cu_fuse.proofs.Same.{DoesSame, does_itself, reads_same}
 
 -- ---- what is written by two lists
 
@@ -103,8 +105,21 @@ only_one : (x y : ℕ) → Contains (x ∷ []) y → y ≡ x
 only_one x y (zero, l, e) = sym e
 only_one x y (suc k, l, e) = absurd (omega arith)
 
+-- one operation that does what the reader does with its maker merged in
+pub record IsJoint (arrays : List ArrayInfo) (reserved : ℕ) (maker reader both : Planned) (j : ℕ) : Type 0 where
+  pub same : DoesSame arrays (merged_op maker.op reader.op j) both.op
+  pub projected : both.projected ≡ projection arrays reserved both.op
+  pub room : both.projected < 2 ^ 64
+
+pub joint_of : (arrays : List ArrayInfo) (reserved : ℕ) (maker reader both : Planned) (j : ℕ) → IsMerged arrays reserved maker reader both j → IsJoint arrays reserved maker reader both j
+joint_of arrays reserved maker reader both j is = record {
+  same = subst (DoesSame arrays (merged_op maker.op reader.op j)) (sym is.op) (does_itself arrays (merged_op maker.op reader.op j));
+  projected = is.projected;
+  room = is.room;
+}
+
 module _ (arrays : List ArrayInfo) (reserved : ℕ) (front between behind : List Planned) (maker reader both : Planned) (array j : ℕ)
-    (joins : Joins arrays (record { maker = maker; between = between; reader = reader; behind = behind }) array j) (is : IsMerged arrays reserved maker reader both j) where
+    (joins : Joins arrays (record { maker = maker; between = between; reader = reader; behind = behind }) array j) (is : IsJoint arrays reserved maker reader both j) where
   abbrev I : Op
   I = Map joins.inner joins.inner_ins array
 
@@ -114,8 +129,11 @@ module _ (arrays : List ArrayInfo) (reserved : ℕ) (front between behind : List
   abbrev M : Op
   M = merged_op I O j
 
-  both_is : both.op ≡ M
-  both_is = is.op ∙ (λ i. merged_op (joins.makes i) (joins.takes i) j)
+  both_same : DoesSame arrays M both.op
+  both_same = subst (λ (o : Op). DoesSame arrays o both.op) (λ i. merged_op (joins.makes i) (joins.takes i) j) is.same
+
+  both_writes : writes_of both.op ≡ writes_of M
+  both_writes = both_same.writes
 
   merge_of : Fits arrays maker.op → Fits arrays reader.op → IsMerge arrays joins.inner.code.items joins.outer.code.items joins.inner_ins.items joins.outer_ins.items array joins.out j
   merge_of m r = record { maker = subst (Fits arrays) joins.makes m; reader = subst (Fits arrays) joins.takes r; input = joins.input; grid = joins.grid }
@@ -176,16 +194,16 @@ module _ (arrays : List ArrayInfo) (reserved : ℕ) (front between behind : List
 
     both_step : CanFollow arrays reserved (front ++ between) both
     both_step = record {
-      reads = subst (λ (o : Op). All (IsAtHand arrays (front ++ between)) (reads_of o)) (sym both_is)
+      reads = reads_same arrays M both.op (IsAtHand arrays (front ++ between)) both_same
           (all_put_in_but (IsAtHand arrays (front ++ between)) j array joins.inner_ins.items joins.outer_ins.items joins.input
           (λ k b other at.
           let w = slice_get_within joins.outer_ins.items k b at in
           let apart : b ≢ array = λ e. joins.alone k other (at ∙ ap Some e) in
           moved_on (front ++ maker ∷ []) front b (without front b apart) (subst (IsAtHand arrays ((front ++ maker ∷ []) ++ between)) (get_or_from_slice_get joins.outer_ins.items k b b at) (reader_reads k b w)))
           (λ k d b. early (get_or joins.inner_ins.items k d) (maker_reads k d b)));
-      writes = subst (λ (o : Op). All (IsNew arrays (front ++ between)) (writes_of o)) (sym both_is)
+      writes = subst (All (IsNew arrays (front ++ between))) (sym both_writes)
           (λ k d b. let (within, made, new) = reader_writes k d b in (within, made, λ w. new (fewer (get_or (joins.out ∷ []) k d) w)));
-      fits = subst (Fits arrays) (sym both_is) (merged_fits arrays joins.inner.code.items joins.outer.code.items joins.inner_ins.items joins.outer_ins.items array joins.out j merge);
+      fits = both_same.fits (merged_fits arrays joins.inner.code.items joins.outer.code.items joins.inner_ins.items joins.outer_ins.items array joins.out j merge);
       projected = is.projected;
       room = is.room;
     }
@@ -214,11 +232,11 @@ module _ (arrays : List ArrayInfo) (reserved : ℕ) (front between behind : List
         on a (l, inr w) = inr (written_left (front ++ between) (both ∷ []) a w)
 
         as_both : (a : ℕ) → HasWriter (reader ∷ []) a → HasWriter (both ∷ []) a
-        as_both a (inl h) = inl (subst (λ (o : Op). Contains (writes_of o) a) (sym both_is) (subst (λ (o : Op). Contains (writes_of o) a) joins.takes h))
+        as_both a (inl h) = inl (subst (λ (l : List ℕ). Contains l a) (sym both_writes) (subst (λ (o : Op). Contains (writes_of o) a) joins.takes h))
         as_both a (inr h) = absurd h
 
         as_reader : (a : ℕ) → HasWriter (both ∷ []) a → HasWriter (reader ∷ []) a
-        as_reader a (inl h) = inl (subst (λ (o : Op). Contains (writes_of o) a) (sym joins.takes) (subst (λ (o : Op). Contains (writes_of o) a) both_is h))
+        as_reader a (inl h) = inl (subst (λ (o : Op). Contains (writes_of o) a) (sym joins.takes) (subst (λ (l : List ℕ). Contains l a) both_writes h))
         as_reader a (inr h) = absurd h
 
     -- between maker and reader
@@ -249,7 +267,7 @@ module _ (arrays : List ArrayInfo) (reserved : ℕ) (front between behind : List
       where
         value : IsMade arrays at maker → IsMade arrays at reader → IsMade arrays at both
         value own reads a idx w inside =
-            let same : a ≡ joins.out = only_one joins.out a (subst (λ (o : Op). Contains (writes_of o) a) both_is w) in
+            let same : a ≡ joins.out = only_one joins.out a (subst (λ (l : List ℕ). Contains l a) both_writes w) in
             let here : IsInside (grid_at arrays joins.out).shape idx = subst (λ (b : ℕ). IsInside (grid_at arrays b).shape idx) same inside in
             let there : IsInside (grid_at arrays array).shape idx = subst (λ (g : RegularGrid). IsInside g.shape idx) (sym joins.grid) here in
             let by_maker : at array idx ≡ rule I arrays at array idx =
@@ -258,4 +276,5 @@ module _ (arrays : List ArrayInfo) (reserved : ℕ) (front between behind : List
             reads joins.out idx (subst (λ (o : Op). Contains (writes_of o) joins.out) (sym joins.takes) (0, omega arith, refl)) here ∙ ap (λ (o : Op). rule o arrays at joins.out idx) joins.takes in
             let same_value : rule M arrays at a idx ≡ rule O arrays at joins.out idx =
             merged_value arrays joins.inner.code.items joins.outer.code.items joins.inner_ins.items joins.outer_ins.items array joins.out j merge at idx here by_maker in
-            ap (λ (b : ℕ). at b idx) same ∙ by_reader ∙ sym same_value ∙ sym (ap (λ (o : Op). rule o arrays at a idx) both_is)
+            ap (λ (b : ℕ). at b idx) same ∙ by_reader ∙ sym same_value
+            ∙ sym (both_same.value (merged_fits arrays joins.inner.code.items joins.outer.code.items joins.inner_ins.items joins.outer_ins.items array joins.out j merge) at a idx)

@@ -179,7 +179,7 @@ pub record Stand {T : Type 0} (places : List ℕ) (old new : List T) : Type 0 wh
 stand_nothing : {T : Type 0} → Stand {T = T} [] [] []
 stand_nothing {T} = record { each = refl; at = λ a x e. cc; last = refl }
 
-pushed_cases : {T : Type 0} (xs : List T) (x y : T) (a : ℕ) → slice_get (xs ++ x ∷ []) a ≡ Some y → (slice_get xs a ≡ Some y) ⊎ ((a ≡ length xs) × (x ≡ y))
+pub pushed_cases : {T : Type 0} (xs : List T) (x y : T) (a : ℕ) → slice_get (xs ++ x ∷ []) a ≡ Some y → (slice_get xs a ≡ Some y) ⊎ ((a ≡ length xs) × (x ≡ y))
 pushed_cases {T} [] x y zero e = inr (refl, same_Some x y e)
 pushed_cases {T} [] x y (suc a) e = cc
 pushed_cases {T} (z ∷ xs) x y zero e = inl e

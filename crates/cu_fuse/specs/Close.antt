@@ -1,5 +1,5 @@
 -- Operations whose arrays have other numbers (this project's own rule): where arrays are taken out of a plan, the numbers behind close up.
-use Rattle.std.specs.Prelude.{◌≡◌, ◌≢◌, ◌<◌, ◌≤◌, length, ℕ, zero, suc, ◌+◌, ◌==◌, Bool, true, List, [], ◌∷◌, map, Option, None, Some, if◌then◌else◌}
+use Rattle.std.specs.Prelude.{◌≡◌, ◌≢◌, ◌<◌, ◌≤◌, length, ℕ, zero, suc, ◌+◌, ◌==◌, Bool, true, false, List, [], ◌∷◌, map, Option, None, Some, if◌then◌else◌}
 use Rattle.std.specs.List.{list_any}
 use Rattle.cu_name.specs.Keys.{made_prefix_of}
 use Rattle.cu_name.specs.Name.{IsArrayName}
@@ -74,12 +74,21 @@ closed s ops = record {
 }
 
 -- what stays of a plan while its operations are merged
-abbrev pub setting_of : PlanView → SettingView
-setting_of p = record { arrays = p.arrays; out = p.out; allowed = p.allowed; reserved = p.reserved }
+abbrev pub setting_by : Bool → PlanView → SettingView
+setting_by once p = record { arrays = p.arrays; out = p.out; allowed = p.allowed; reserved = p.reserved; once = once }
 
--- a plan after the merges of its maps
+abbrev pub setting_of : PlanView → SettingView
+setting_of p = setting_by false p
+
+-- a plan after the merges of its maps, where these load an array once or need not
+abbrev pub fused_by : Bool → PlanView → PlanView
+fused_by once p = closed (setting_of p) (fused_ops (setting_by once p) p.ops)
+
 abbrev pub fused : PlanView → PlanView
-fused p = closed (setting_of p) (fused_ops (setting_of p) p.ops)
+fused p = fused_by false p
+
+abbrev pub fused_loading_once : PlanView → PlanView
+fused_loading_once p = fused_by true p
 
 -- how many made arrays other than the output come before array a
 abbrev pub others_before : PlanView → ℕ → ℕ

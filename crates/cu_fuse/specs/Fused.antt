@@ -1,5 +1,5 @@
 -- The operations that are left when makers are merged into their readers, one array after another (this project's own rule).
-use Rattle.std.specs.Prelude.{ℕ, suc, ◌+◌, ◌==◌, ◌&&◌, nat_le, not, bytes_eq, Bool, true, false, List, [], ◌∷◌, ◌++◌, length, drop, Option, Some, None, option_map, unwrap_or, if◌then◌else◌}
+use Rattle.std.specs.Prelude.{ℕ, suc, ◌+◌, ◌==◌, ◌&&◌, nat_le, not, bytes_eq, Bool, true, false, List, [], ◌∷◌, ◌++◌, length, drop, map, Option, Some, None, option_map, unwrap_or, if◌then◌else◌}
 use Rattle.std.specs.List.{list_any}
 use Rattle.cu_grid.specs.Grid.{RegularGrid}
 use Rattle.cu_op.specs.Numbers.{number_in}
@@ -11,13 +11,15 @@ use Rattle.cu_op.specs.Arrays.{grid_at}
 use Rattle.cu_op.specs.Operation.{reads_of, writes_of, target_of}
 use Rattle.cu_op.specs.Projection.{projection, instruction_count}
 use Rattle.cu_fuse.specs.Merge.{merged_op}
+use Rattle.cu_fuse.specs.Once.{loaded_by, one_load}
 
--- what stays while operations are merged: the arrays, the number of the output, and two counts of bytes
+-- what stays while operations are merged: the arrays, the number of the output, two counts of bytes, and whether maps load an array once
 pub record SettingView : Type 0 where
   pub arrays : List ArrayInfo
   pub out : ℕ
   pub allowed : ℕ
   pub reserved : ℕ
+  pub once : Bool
 
 -- whether an operation is a map
 abbrev pub is_map : Op → Bool
@@ -46,13 +48,13 @@ abbrev pub same_grid : RegularGrid → RegularGrid → Bool
 same_grid g h = bytes_eq g.shape h.shape && bytes_eq g.chunk h.chunk
 
 -- the reader of array `a` with its maker merged in
-abbrev pub joint_op : Planned → Planned → ℕ → Op
-joint_op maker reader a = merged_op maker.op reader.op (number_in (reads_of reader.op) a)
+abbrev pub joint_op : SettingView → Planned → Planned → ℕ → Op
+joint_op s maker reader a = loaded_by s.once (merged_op maker.op reader.op (number_in (reads_of reader.op) a))
 
 -- it belongs to the reader's node
 abbrev pub joint : SettingView → Planned → Planned → ℕ → Planned
 joint s maker reader a =
-    record { op = joint_op maker reader a; node = reader.node; projected = projection s.arrays s.reserved (joint_op maker reader a) }
+    record { op = joint_op s maker reader a; node = reader.node; projected = projection s.arrays s.reserved (joint_op s maker reader a) }
 
 -- ---- when a maker is merged into a reader of its array
 
@@ -104,6 +106,15 @@ abbrev pub merged_all : SettingView → List ℕ → List Planned → List Plann
 merged_all s [] ops = ops
 merged_all s (a ∷ rest) ops = merged_all s rest (merged_away s a ops)
 
--- the operations of a plan after the merges: the inputs of its maps are taken in order
+-- an operation that loads each array once
+abbrev pub with_one_load : SettingView → Planned → Planned
+with_one_load s o = record { op = one_load o.op; node = o.node; projected = projection s.arrays s.reserved (one_load o.op) }
+
+-- the operations before the merges
+abbrev pub loaded_ops : SettingView → List Planned → List Planned
+loaded_ops s ops = if s.once then map (with_one_load s) ops else ops
+
+-- The operations of a plan after the merges. The inputs of its maps are taken in order: an array that stands among them is taken in its turn,
+-- though a merge may have put it in again.
 abbrev pub fused_ops : SettingView → List Planned → List Planned
-fused_ops s ops = merged_all s (map_inputs ops) ops
+fused_ops s ops = merged_all s (map_inputs (loaded_ops s ops)) (loaded_ops s ops)

@@ -15,6 +15,6 @@ pub record MayMerge (s : SettingView) (maker reader : Planned) (behind : List Pl
   pub read : stands_in (reads_of reader.op) a ≡ true
   pub alone : count_by (λ b. b == a) (reads_of reader.op ++ flat_map (λ o. reads_of o.op) behind) ≡ 1
   pub grid : grid_at s.arrays a ≡ grid_at s.arrays (target_of reader.op)
-  pub inputs : length (reads_of (joint_op maker reader a)) ≤ 8
-  pub instructions : instruction_count (joint_op maker reader a) ≤ 32
-  pub allowed : projection s.arrays s.reserved (joint_op maker reader a) ≤ s.allowed
+  pub inputs : length (reads_of (joint_op s maker reader a)) ≤ 8
+  pub instructions : instruction_count (joint_op s maker reader a) ≤ 32
+  pub allowed : projection s.arrays s.reserved (joint_op s maker reader a) ≤ s.allowed

@@ -7,9 +7,10 @@ ghost use Rattle.cu_fuse.specs.Fused.{are_maps, is_small, joint, stands_in};
 ghost use Rattle.cu_fuse.specs.Runs.{IsOverArrays};
 
 use crate::inputs::put_in;
+use crate::once::loaded_map;
 use crate::setting::MergeSetting;
 use crate::splice::{Inner, spliced};
-use cu_op::{Kernel, Op, Planned, number_in, one_map_law, projection_of};
+use cu_op::{Op, Planned, number_in, one_map_law, projection_of};
 
 /// An operation that belongs to this node; none where it needs more than is allowed.
 fn within_allowed(setting: &MergeSetting, op: Op, node: u32) -> Option<Planned>
@@ -69,13 +70,9 @@ pub(crate) fn join(
                     width: inner_ins.len() as u32,
                     code: inner.code.as_slice(),
                 };
-                let code = spliced(inside, outer.code.as_slice())?;
-                let ins = put_in(j, inner_ins.as_slice(), outer_ins.as_slice())?;
-                let op = Op::Map {
-                    kernel: Kernel { code },
-                    ins,
-                    out: *out,
-                };
+                let code = spliced(inside, outer.code.as_slice());
+                let ins = put_in(j, inner_ins.as_slice(), outer_ins.as_slice());
+                let op = loaded_map(setting.once, code.as_slice(), ins.as_slice(), *out)?;
                 within_allowed(setting, op, reader.node)
             }
             _ => None,

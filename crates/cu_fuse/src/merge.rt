@@ -4,11 +4,12 @@ ghost use Rattle.cu_op.specs.Layout.{IsArray};
 ghost use Rattle.cu_op.specs.Arrays.{grid_at};
 ghost use Rattle.cu_op.specs.Operation.{reads_of, writes_of};
 ghost use Rattle.cu_fuse.specs.Close.{maker_of};
-ghost use Rattle.cu_fuse.specs.Fused.{fused_ops, has_one_reader, is_map, joint, map_inputs, may_merge, merged_away, reader_of, same_grid, stands_in};
+ghost use Rattle.cu_fuse.specs.Fused.{fused_ops, has_one_reader, is_map, joint, map_inputs, may_merge, merged_all, merged_away, reader_of, same_grid, stands_in};
 ghost use Rattle.cu_fuse.specs.Runs.{CanRun, IsOverArrays};
 
 use crate::inputs::{stands_in, stands_once};
 use crate::join::join;
+use crate::once::load_all_once;
 use crate::setting::MergeSetting;
 use cu_op::{ArrayInfo, Op, Planned};
 use std::alloc::{AllocError, Global};
@@ -142,6 +143,24 @@ fn map_inputs(alloc: Global, ops: &[Planned]) -> Result<Vec<u32>, AllocError>
 }
 
 /// Merges makers into their readers, where they are to be merged: the inputs of the maps are taken in order.
+fn merge_all(
+    alloc: Global,
+    setting: &MergeSetting,
+    ops: &mut Vec<Planned>,
+) -> Result<(), AllocError>
+    requires arrays { All IsArray setting.now.arrays }
+    requires run { CanRun setting.now.arrays setting.now.reserved [] ops.old.items }
+    requires allowed { setting.now.allowed < 2 ^ 64 }
+    ensures { OnOk result (ops.new.items ≡ merged_all setting.now (map_inputs ops.old.items) ops.old.items) }
+{
+    let inputs = map_inputs(alloc, ops)?;
+    for a in &inputs {
+        merge_away(setting, *a, ops);
+    }
+    Ok(())
+}
+
+/// Gives each operation one load of each array, where maps load an array once, and merges makers into their readers.
 pub(crate) fn merge_maps(
     alloc: Global,
     setting: &MergeSetting,
@@ -152,9 +171,8 @@ pub(crate) fn merge_maps(
     requires allowed { setting.now.allowed < 2 ^ 64 }
     ensures { OnOk result (ops.new.items ≡ fused_ops setting.now ops.old.items) }
 {
-    let inputs = map_inputs(alloc, ops)?;
-    for a in &inputs {
-        merge_away(setting, *a, ops);
+    if setting.once {
+        load_all_once(setting, ops);
     }
-    Ok(())
+    merge_all(alloc, setting, ops)
 }

@@ -1,10 +1,10 @@
 //! The plan after the merges of its maps.
 ghost use Rattle.std.specs.Prelude.{◌≡◌, IfOk};
 ghost use Rattle.cu_op.specs.Sound.{Sound};
-ghost use Rattle.cu_fuse.specs.Close.{fused, HasMadeNames};
+ghost use Rattle.cu_fuse.specs.Close.{fused, fused_by, fused_loading_once, HasMadeNames};
 
 use crate::close::close;
-use crate::laws::fused_law;
+use crate::laws::{fused_law, fused_loading_once_law};
 use crate::merge::merge_maps;
 use crate::setting::MergeSetting;
 use cu_op::Plan;
@@ -23,13 +23,27 @@ pub fn fuse(alloc: Global, plan: Plan) -> Result<Plan, NoMemory>
     ensures sound { IfOk result Sound }
 {
     fused_law();
-    merged_plan(alloc, plan).map_err(|_| NoMemory)
+    merged_plan(alloc, plan, false).map_err(|_| NoMemory)
 }
 
-fn merged_plan(alloc: Global, plan: Plan) -> Result<Plan, AllocError>
+/// The plan after the merges of its maps, in which each map loads an array once (this project's own rule). In each map an array stands once
+/// among the inputs and has one load, both at the place of the first; the other loads of it go, and the instructions close up. (A load that
+/// ends a kernel stays, since the kernel's value is its last instruction's.) Then makers are merged into maps as by `fuse`, and the same is
+/// done to each merged map before its inputs, its instructions and the memory that it needs are counted. The plan's output has the name NAME,
+/// and its other made arrays have the names `_cubed/NAME/K` already, where K counts them from 0.
+pub fn fuse_loading_once(alloc: Global, plan: Plan) -> Result<Plan, NoMemory>
+    requires { HasMadeNames plan }
+    ensures plan { IfOk result (λ merged. merged ≡ fused_loading_once plan) }
+    ensures sound { IfOk result Sound }
+{
+    fused_loading_once_law();
+    merged_plan(alloc, plan, true).map_err(|_| NoMemory)
+}
+
+fn merged_plan(alloc: Global, plan: Plan, once: bool) -> Result<Plan, AllocError>
     requires output { HasMadeNames plan }
-    requires sound { Sound (fused plan) }
-    ensures { IfOk result (λ merged. merged ≡ fused plan) }
+    requires sound { Sound (fused_by once plan) }
+    ensures { IfOk result (λ merged. merged ≡ fused_by once plan) }
 {
     let out = plan.out();
     let allowed = plan.allowed();
@@ -40,6 +54,7 @@ fn merged_plan(alloc: Global, plan: Plan) -> Result<Plan, AllocError>
         out,
         allowed,
         reserved,
+        once,
     };
     merge_maps(alloc, &setting, &mut ops)?;
     close(alloc, &setting, ops)

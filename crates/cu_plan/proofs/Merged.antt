@@ -1,5 +1,5 @@
 -- The plan of an expression in which maps are merged: what was known of it before holds of it.
-use Rattle.std.proofs.Common.{◌≡◌, ◌≢◌, ℕ, zero, suc, ◌-◌, ◌<◌, ◌≤◌, ◌^◌, [], ℤ, List, Option, Some, None, length, refl, ap, sym, ◌∙◌, subst, arith, inl, inr, ⊎_elim}
+use Rattle.std.proofs.Common.{◌≡◌, ◌≢◌, ℕ, zero, suc, ◌-◌, ◌<◌, ◌≤◌, ◌^◌, [], ℤ, List, Option, Some, None, length, refl, ap, sym, ◌∙◌, subst, arith, false, inl, inr, ⊎_elim}
 use Rattle.std.proofs.lemmas.Bool.{cases_lt}
 use Rattle.cu_shape.specs.Index.{IsInside}
 use Rattle.cu_num.specs.Dtype.{InRange}
@@ -71,7 +71,7 @@ module _ (e : Expression) (infos : List NodeInfo) (inputs : List InputInfo) (opt
   }
 
   pub merged_sound : Sound (fused p)
-  merged_sound = fused_is_sound p sound has_names room
+  merged_sound = fused_is_sound false p sound has_names room
 
   pub merged_needs : ((j : ℕ) → j < length p.ops → IsOfNode e infos options (operation_at p.ops j)) → (j : ℕ) → j < length (fused p).ops → (operation_at (fused p).ops j).projected ≤ options.allowed
   merged_needs needs = fused_within p room (λ j below. (needs j below).allowed)
@@ -79,19 +79,19 @@ module _ (e : Expression) (infos : List NodeInfo) (inputs : List InputInfo) (opt
   -- ---- arrays
 
   there : (a : ℕ) → a < n → a < length (fused p).arrays
-  there = input_there p sound has_names room n inputs_few order.given order.others
+  there = input_there false p sound has_names room n inputs_few order.given order.others
 
   same : (a : ℕ) → a < n → array_at (fused p).arrays a ≡ array_at p.arrays a
-  same = inputs_kept p sound has_names room n inputs_few order.given order.others
+  same = inputs_kept false p sound has_names room n inputs_few order.given order.others
 
   first : HasInputsFirst (fused p) n
-  first = first_kept p sound has_names room n inputs_few order.given order.others
+  first = first_kept false p sound has_names room n inputs_few order.given order.others
 
   pub merged_output : IsOutput e infos (array_at (fused p).arrays (fused p).out)
   merged_output = record {
-    name = output_name p sound has_names room ∙ output.name;
-    layout = output_layout p sound has_names room ∙ output.layout;
-    made = output_made p sound has_names room output.made;
+    name = output_name false p sound has_names room ∙ output.name;
+    layout = output_layout false p sound has_names room ∙ output.layout;
+    made = output_made false p sound has_names room output.made;
   }
 
   pub merged_input : ((k : ℕ) (name : List ℕ) → IsLiveInput e k name → array_at p.arrays (input_place e name) ≡ input_array inputs name)
@@ -117,7 +117,7 @@ module _ (e : Expression) (infos : List NodeInfo) (inputs : List InputInfo) (opt
     encodings = encodings_kept p (fused_ops (setting_of p) p.ops) sound has_names (Plain Slash) order.encodings;
     made = λ a below made.
         ⊎_elim (λ own. inl (own ∙ output.name)) (λ (k, few, is). inr (k, few, is ∙ ap (λ name. made_prefix_of name k) output.name))
-        (made_name p sound has_names room a below made);
+        (made_name false p sound has_names room a below made);
     inputs = λ a below none.
         let l = first.alone a below none in
         let all = inputs_few in
@@ -147,4 +147,4 @@ module _ (e : Expression) (infos : List NodeInfo) (inputs : List InputInfo) (opt
   -- the result's value is what it was
   pub merged_value : (env : Elements) (idx : List ℕ) → IsInside (shape_of_node infos e.out) idx → plan_value (fused p) env (fused p).out idx ≡ plan_value p env p.out idx
   merged_value env idx inside =
-      result_kept p sound has_names room n inputs_few order.given order.others env idx (subst (λ (l : Layout). IsInside l.grid.shape idx) (sym output.layout) inside)
+      result_kept false p sound has_names room n inputs_few order.given order.others env idx (subst (λ (l : Layout). IsInside l.grid.shape idx) (sym output.layout) inside)

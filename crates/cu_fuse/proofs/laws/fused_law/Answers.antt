@@ -1,3 +1,4 @@
+use Rattle.std.proofs.Common.{false}
 use Rattle.cu_fuse.specs.Close.{setting_of}
 use Rattle.cu_fuse.specs.Fused.{fused_ops}
 use Rattle.cu_fuse.proofs.ClosedCounts.{fused_is_sound}
@@ -7,15 +8,15 @@ use Rattle.cu_fuse.proofs.laws.fused_law.Goals as goal
 
 pub returns : goal.returns
 returns c = record {
-  sound = λ p sound names room. fused_is_sound p sound names room;
+  sound = λ p sound names room. fused_is_sound false p sound names room;
   needs = λ p k room few h. fused_within p room few k h;
-  inputs = λ p n a sound names room first h. inputs_kept p sound names room n first.few first.given first.alone a h;
-  first = λ p n sound names room first. first_kept p sound names room n first.few first.given first.alone;
-  fewer = λ p room. fused_fewer p room;
-  value = λ p n env idx sound names room first inside. result_kept p sound names room n first.few first.given first.alone env idx inside;
+  inputs = λ p n a sound names room first h. inputs_kept false p sound names room n first.few first.given first.alone a h;
+  first = λ p n sound names room first. first_kept false p sound names room n first.few first.given first.alone;
+  fewer = λ p room. fused_fewer false p room;
+  value = λ p n env idx sound names room first inside. result_kept false p sound names room n first.few first.given first.alone env idx inside;
   names = λ p sound names room own. own_names p (fused_ops (setting_of p) p.ops) sound names own;
-  name = λ p sound names room. output_name p sound names room;
-  layout = λ p sound names room. output_layout p sound names room;
-  output = λ p sound names room. output_made p sound names room;
-  made = λ p b sound names room h m. made_name p sound names room b h m;
+  name = λ p sound names room. output_name false p sound names room;
+  layout = λ p sound names room. output_layout false p sound names room;
+  output = λ p sound names room. output_made false p sound names room;
+  made = λ p b sound names room h m. made_name false p sound names room b h m;
 }

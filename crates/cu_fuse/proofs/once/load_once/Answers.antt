@@ -1,0 +1,47 @@
+use Rattle.std.proofs.Common.{◌≡◌, ◌<◌, ◌^◌, List, ℕ, All, refl, length, ap, sym, ◌∙◌, subst, arith}
+use Rattle.cu_op.specs.declared.layout.ArrayInfo.{ArrayInfo}
+use Rattle.cu_op.specs.declared.operation.Op.{Op}
+use Rattle.cu_op.specs.Operation.{reads_of}
+use Rattle.cu_op.specs.Projection.{projection}
+use Rattle.cu_fuse.specs.Fused.{SettingView}
+use Rattle.cu_fuse.specs.Once.{one_load, plain_map}
+use Rattle.cu_fuse.proofs.LoadedOnce.{not_larger}
+use Rattle.cu_fuse.proofs.Same.{one_load_does, reads_same}
+use Rattle.cu_fuse.proofs.once.load_once.Goals as goal
+
+pub returns-in_default-loaded_map : goal.returns-in_default-loaded_map
+returns-in_default-loaded_map c =
+    absurd (not_larger c.as_slice.result.now c.as_slice-2.result.now c.in-Map.out c.as_slice.ensures.fits
+    c.as_slice-2.ensures.fits (c.in_default-loaded_map.ensures.none refl))
+
+pub projection_of-planned-requires-clause-reads : goal.projection_of-planned-requires-clause-reads
+projection_of-planned-requires-clause-reads c =
+    let s = c.args.setting.now in
+    let op = c.args.planned.now.op in
+    let arrays : c.deref.result.now ≡ s.arrays =
+    c.deref.ensures.value ∙ ap (λ (v : SettingView). v.arrays) c.setting.view_is in
+    let is : c.in-Some.op ≡ one_load op =
+    c.in-Some.ensures.map
+    ∙ (λ i. one_load (plain_map (c.as_slice.ensures.value i) (c.as_slice-2.ensures.value i) c.in-Map.out))
+    ∙ ap one_load (sym c.in-Map.is) in
+    subst (λ (l : List ArrayInfo). All (λ a. a < length l) (reads_of c.in-Some.op)) (sym arrays)
+    (subst (λ (o : Op). All (λ a. a < length s.arrays) (reads_of o)) (sym is)
+    (reads_same s.arrays op (one_load op) (λ (a : ℕ). a < length s.arrays) (one_load_does s.arrays op)
+    c.requires.over.reads))
+
+pub projection_of-planned-requires-clause-small : goal.projection_of-planned-requires-clause-small
+projection_of-planned-requires-clause-small c =
+    let s = c.args.setting.now in
+    let op = c.args.planned.now.op in
+    let arrays : c.deref.result.now ≡ s.arrays =
+    c.deref.ensures.value ∙ ap (λ (v : SettingView). v.arrays) c.setting.view_is in
+    let reserved : c.setting.inside.reserved ≡ s.reserved = ap (λ (v : SettingView). v.reserved) c.setting.view_is in
+    let is : c.in-Some.op ≡ one_load op =
+    c.in-Some.ensures.map
+    ∙ (λ i. one_load (plain_map (c.as_slice.ensures.value i) (c.as_slice-2.ensures.value i) c.in-Map.out))
+    ∙ ap one_load (sym c.in-Map.is) in
+    let less = (one_load_does s.arrays op).needs s.reserved in
+    let needs = c.requires.projected in
+    let few = c.requires.room in
+    let own : projection s.arrays s.reserved (one_load op) < 2 ^ 64 = omega (arith, less, needs, few) in
+    subst (λ (n : ℕ). n < 2 ^ 64) (λ i. projection (sym arrays i) (sym reserved i) (sym is i)) own
