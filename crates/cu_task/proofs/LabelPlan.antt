@@ -1,10 +1,10 @@
 -- A task of a fold by labels in a plan: the bytes of its regions, and what is made of them.
-use Rattle.std.proofs.Common.{◌≡◌, ℕ, ◌+◌, ◌*◌, ◌<◌, List, [], ◌++◌, length, drop, set, get_or, Some, sym, ap, ◌∙◌, subst, arith}
+use Rattle.std.proofs.Common.{◌≡◌, ℕ, ◌+◌, ◌*◌, ◌<◌, List, [], ◌++◌, length, drop, set, get_or, sym, ap, ◌∙◌, subst, arith}
 use Rattle.std.specs.Prelude.{slice_index_or}
 use Rattle.cu_num.specs.Dtype.{size_of}
 use Rattle.cu_shape.specs.Index.{product, differences}
 use Rattle.cu_grid.specs.Grid.{IsGrid}
-use Rattle.cu_op.specs.Arrays.{array_at, grid_at, type_at, grid_counts}
+use Rattle.cu_op.specs.Arrays.{grid_at, type_at, grid_counts}
 use Rattle.cu_op.specs.Cells.{tasks_of, task_lo, task_hi}
 use Rattle.cu_op.specs.Chunks.{walk}
 use Rattle.cu_op.specs.Grouping.{grouped_walk, labels_walk}
@@ -18,10 +18,9 @@ use Rattle.cu_op.specs.declared.walks.Walk.{Walk}
 use Rattle.cu_op.proofs.Operations.{Fit}
 use Rattle.cu_op.proofs.Plans.{grid_ok}
 use Rattle.cu_op.proofs.TaskCells.{fit_of}
-use Rattle.cu_region.specs.Reading.{ReadsRegion}
 use Rattle.cu_region.specs.Writing.{AreElements}
 use Rattle.cu_task.specs.ByLabels.{fold_by_labels}
-use Rattle.cu_task.specs.Inputs.{walk_room, room_of_walks}
+use Rattle.cu_task.specs.Inputs.{walk_room, room_of_walks, HasRegion}
 use Rattle.cu_task.specs.Task.{IsComputed}
 use Rattle.cu_task.specs.declared.groups.LabelFold.{LabelFold}
 use Rattle.cu_task.proofs.InputReads.{reads_part}
@@ -98,11 +97,11 @@ module _ (p : PlanView) (k task : ℕ) (a : LabelFold) (is : op_of p k ≡ fold_
   groups_made input front behind out cut has = computed_by p k task (fold_by_labels a) input out is made
     where
       made : IsComputedBy p.arrays (fold_by_labels a) task a.out input out
-      made held regions idx w =
-          let elements = subst (λ (b : List ℕ). ReadsRegion (array_at p.arrays a.source) source_region.region.lo source_region.region.hi (Some held) b) cut.whole regions.0 in
-          let marks = subst (λ (b : List ℕ). ReadsRegion (array_at p.arrays a.labels) labels_region.region.lo labels_region.region.hi (Some held) b) cut.rest regions.1.0 in
-          groups_are p.arrays a.kind a.axis a.groups a.source a.labels a.out task t.fit.2 t.source_grid t.labels_grid t.made_grid t.in_grid held front behind
-          (reads_part (array_at p.arrays a.source) source_region.region.lo source_region.region.hi front behind held cut.long elements) marks out has idx w
+      made at regions idx w =
+          let elements = subst (HasRegion (type_at p.arrays a.source) (at a.source) source_region.region.lo source_region.region.hi) cut.whole regions.0 in
+          let marks = subst (HasRegion (type_at p.arrays a.labels) (at a.labels) labels_region.region.lo labels_region.region.hi) cut.rest regions.1.0 in
+          groups_are p.arrays a.kind a.axis a.groups a.source a.labels a.out task t.fit.2 t.source_grid t.labels_grid t.made_grid t.in_grid at front behind
+          (reads_part (type_at p.arrays a.source) (at a.source) source_region.region.lo source_region.region.hi front behind cut.long elements) marks out has idx w
 
   pub elements_made : (front behind out : List ℕ) → length out ≡ product (differences (hi_at (op_of p k)) (lo_at (op_of p k))) * size_of (type_at p.arrays (target_of (op_of p k)))
       → HasGroups region front behind out → AreElements (type_at p.arrays (target_of (op_of p k))) out

@@ -1,5 +1,5 @@
 -- A task of a fold by labels: its regions, and what its results are.
-use Rattle.std.proofs.Common.{◌≡◌, inl, inr, ℕ, zero, suc, ◌+◌, ◌-◌, ◌*◌, ◌<◌, ◌≤◌, ℤ, min, List, [], ◌∷◌, ◌++◌, length, map, take, drop, set, get_or, Contains, Option, Some, refl, sym, ap, ◌∙◌, subst, arith}
+use Rattle.std.proofs.Common.{◌≡◌, inl, inr, ℕ, zero, suc, ◌+◌, ◌-◌, ◌*◌, ◌<◌, ◌≤◌, ℤ, min, List, [], ◌∷◌, length, map, take, drop, set, get_or, Contains, Option, Some, refl, sym, ap, ◌∙◌, subst, arith}
 use Rattle.std.specs.List.{range_with_len}
 use Rattle.std.proofs.lemmas.List.{length-take-le, length-set, get_or-take, get_or-set_same, set-get_or}
 use Rattle.std.proofs.lemmas.List.FromFn.{length-range_with_len, get_or-range_with_len}
@@ -18,25 +18,24 @@ use Rattle.cu_group.specs.Regions.{label_in}
 use Rattle.cu_reduce.specs.Labels.{Labelled, chunk_places, grouped_at, grouped_to, marked, with_label}
 use Rattle.cu_reduce.specs.Numbers.{HasNumber, line_element}
 use Rattle.cu_reduce.proofs.Given.{grouped_given}
-use Rattle.cu_store.specs.Held.{Contents}
 use Rattle.cu_codec.specs.Parts.{place_within}
 use Rattle.cu_codec.proofs.Shared.{within_sizes}
 use Rattle.cu_op.specs.Along.{size_on, chunk_on}
-use Rattle.cu_op.specs.Arrays.{array_at, grid_at, type_at, grid_counts}
+use Rattle.cu_op.specs.Arrays.{grid_at, type_at, grid_counts}
 use Rattle.cu_op.specs.Grouping.{source_index, label_part, end_part, part_places, first_of, end_of, grouped_walk, labels_walk}
 use Rattle.cu_op.specs.Kind.GroupFold.{GroupFoldFits}
-use Rattle.cu_op.specs.Value.{stored_inputs}
+use Rattle.cu_op.specs.Elements.{Elements}
 use Rattle.cu_op.specs.declared.layout.ArrayInfo.{ArrayInfo}
 use Rattle.cu_op.proofs.ByLabels as by_labels
 use Rattle.cu_op.proofs.Filled.{IsFilled, chunk_filled, filled_lengths, filled_at, filled_region, within_take, other_default}
 use Rattle.cu_op.proofs.MapRegions.{within_lengths}
 use Rattle.cu_op.proofs.Spans.{IsSpan, IsSpanOn, chunk_span, span_at, span_few}
-use Rattle.cu_region.specs.Reading.{ReadsRegion}
 use Rattle.cu_region.specs.Writing.{AreElements, buffer_element}
 use Rattle.cu_task.proofs.MatrixBlocks.{take_differences, range_moved}
 use Rattle.cu_task.proofs.PartialTasks.{result_lo, result_hi}
 use Rattle.cu_task.proofs.PartialValues.{number_at}
 use Rattle.cu_task.proofs.PullTask.{region_elements}
+use Rattle.cu_task.specs.Inputs.{HasRegion}
 
 -- ---- sizes with another number on an axis
 
@@ -319,11 +318,11 @@ module _ (arrays : List ArrayInfo) (kind : FoldKind) (axis groups source labels 
       (subst (λ (m : ℕ). HasNumber acc output (place_of (set dims axis groups) (own idx)) (grouped_at kind acc (label_of behind) (element_of front idx) (get_or (own idx) axis 0) (range_with_len 0 m))) axis_size
       (has (own idx) (own_inside idx w))))
 
-  module _ (held : Contents) (front behind : List ℕ)
-      (reads_source : ReadsRegion (array_at arrays source) (grouped_walk g axis source lo hi).region.lo (grouped_walk g axis source lo hi).region.hi (Some held) front)
-      (reads_labels : ReadsRegion (array_at arrays labels) (labels_walk g axis labels lo hi).region.lo (labels_walk g axis labels lo hi).region.hi (Some held) behind) where
+  module _ (at : Elements) (front behind : List ℕ)
+      (reads_source : HasRegion (type_at arrays source) (at source) (grouped_walk g axis source lo hi).region.lo (grouped_walk g axis source lo hi).region.hi front)
+      (reads_labels : HasRegion (type_at arrays labels) (at labels) (labels_walk g axis labels lo hi).region.lo (labels_walk g axis labels lo hi).region.hi behind) where
     abbrev given : List ℕ → ℕ → Option Labelled
-    given idx k = with_label (stored_inputs arrays held labels (k ∷ [])) (stored_inputs arrays held source (source_index g axis idx k))
+    given idx k = with_label (at labels (k ∷ [])) (at source (source_index g axis idx k))
 
     told : (idx : List ℕ) (q : ℕ) → IsWithin lo hi idx → q < end - first → given idx (first + q) ≡ with_label (Some (label_of behind q)) (Some (element_of front idx q))
     told idx q w below =
@@ -332,10 +331,10 @@ module _ (arrays : List ArrayInfo) (kind : FoldKind) (axis groups source labels 
         ∙ ap (λ m. Some (element_at Little (type_at arrays source) front m)) (source_place idx q w) in
         let l = reads_labels ((first + q) ∷ []) (by_labels.labels_reads arrays kind axis groups source labels out f lo hi idx (first + q) filled w there)
         ∙ ap (λ m. Some (element_at Little (type_at arrays labels) behind m)) (labels_place q) in
-        ap (λ (x : Option ℤ). with_label x (stored_inputs arrays held source (source_index g axis idx (first + q)))) l ∙ ap (with_label (Some (label_of behind q))) s
+        ap (λ (x : Option ℤ). with_label x (at source (source_index g axis idx (first + q)))) l ∙ ap (with_label (Some (label_of behind q))) s
 
     pub groups_are : (output : List ℕ) → HasGroups own_region front behind output → (idx : List ℕ) → IsWithin lo hi idx
-        → grouped_to kind acc (get_or idx axis 0) (marked (λ k. stored_inputs arrays held labels (k ∷ [])) (λ k. stored_inputs arrays held source (source_index g axis idx k)) (part_places g axis idx))
+        → grouped_to kind acc (get_or idx axis 0) (marked (λ k. at labels (k ∷ [])) (λ k. at source (source_index g axis idx k)) (part_places g axis idx))
         ≡ buffer_element acc lo hi output idx
     groups_are output has idx w =
         let q = get_or idx axis 0 in

@@ -27,21 +27,19 @@ use Rattle.cu_reduce.specs.Prefix.{line_through, span, sum_below}
 use Rattle.cu_reduce.specs.Tiers.{carry_at, scan_at}
 use Rattle.cu_scan.specs.Scanned.{given_into, IsGiven}
 use Rattle.cu_scan.proofs.Told.{IsOneGroup, IsToldAbove, dims, below, beyond, one_row, one_group, differences_set, sum_told, within_axis, within_differences}
-use Rattle.cu_store.specs.Held.{Contents}
 use Rattle.cu_op.specs.Along.{CarriesFor, chunk_on, group_walk, carried_walks, carried_array, carried_room}
-use Rattle.cu_op.specs.Arrays.{array_at, grid_at, type_at, grid_counts, chunk_room}
+use Rattle.cu_op.specs.Arrays.{grid_at, type_at, grid_counts, chunk_room}
 use Rattle.cu_op.specs.Kind.Carry.{CarryFits}
 use Rattle.cu_op.specs.Kind.Scan.{ScanFits}
 use Rattle.cu_op.specs.Chunks.{walk}
 use Rattle.cu_op.specs.Partial.{partial_chunk, place_groups, merge_groups, partial_grid}
-use Rattle.cu_op.specs.Value.{stored_inputs}
+use Rattle.cu_op.specs.Elements.{Elements}
 use Rattle.cu_op.specs.declared.layout.ArrayInfo.{ArrayInfo}
 use Rattle.cu_op.specs.declared.walks.Walk.{Walk}
 use Rattle.cu_op.proofs.Filled.{IsFilled, chunk_filled, filled_lengths, filled_at}
 use Rattle.cu_op.proofs.Spans.{IsSpan, IsSpanOn, chunk_span, span_at, span_few}
-use Rattle.cu_region.specs.Reading.{ReadsRegion}
 use Rattle.cu_region.specs.Writing.{buffer_element}
-use Rattle.cu_task.specs.Inputs.{walk_room, room_of_walks, HasRegions}
+use Rattle.cu_task.specs.Inputs.{walk_room, room_of_walks, HasRegions, HasRegion}
 use Rattle.cu_task.proofs.InputReads.{reads_part}
 use Rattle.cu_task.proofs.PartialTasks.{result_lo, result_hi}
 use Rattle.cu_task.proofs.PartialValues.{number_at}
@@ -171,26 +169,26 @@ module _ (arrays : List ArrayInfo) (axis s source out end : ℕ) (lo hi : List �
       (λ i. product (sym (one_group axis s end lo hi w) i) * size_of (sym typed i)) ∙ sym e in
       omega (arith, count)
 
-  above_told : (above : Option ℕ) (held : Contents) (buf : List ℕ) → IsTyped arrays out above → length buf ≡ beside_room arrays above axis s lo hi
-      → HasRegions arrays held (carried_walks above axis s lo hi) buf
-      → IsToldAbove (option_map (stored_inputs arrays held) above) (type_at arrays out) (below axis s end lo hi w) (beyond axis s end lo hi w) buf
-  above_told None held buf typed e has = e
-  above_told (Some a) held buf typed e has =
-      subst (λ (t : Dtype). IsToldAbove (Some (stored_inputs arrays held a)) t (below axis s end lo hi w) (beyond axis s end lo hi w) buf) typed (has.0, omega (arith, e))
+  above_told : (above : Option ℕ) (at : Elements) (buf : List ℕ) → IsTyped arrays out above → length buf ≡ beside_room arrays above axis s lo hi
+      → HasRegions arrays at (carried_walks above axis s lo hi) buf
+      → IsToldAbove (option_map at above) (type_at arrays out) (below axis s end lo hi w) (beyond axis s end lo hi w) buf
+  above_told None at buf typed e has = e
+  above_told (Some a) at buf typed e has =
+      subst (λ (t : Dtype). IsToldAbove (Some (at a)) t (below axis s end lo hi w) (beyond axis s end lo hi w) buf) typed (has.0, omega (arith, e))
 
   -- the sum up to below a place
-  pub sum_is : (above : Option ℕ) (held : Contents) (input front behind : List ℕ) → Cut (walk_room arrays own) input front behind → IsTyped arrays out above
-      → length behind ≡ beside_room arrays above axis s lo hi → HasRegions arrays held (own ∷ carried_walks above axis s lo hi) input
+  pub sum_is : (above : Option ℕ) (at : Elements) (input front behind : List ℕ) → Cut (walk_room arrays own) input front behind → IsTyped arrays out above
+      → length behind ≡ beside_room arrays above axis s lo hi → HasRegions arrays at (own ∷ carried_walks above axis s lo hi) input
       → (idx : List ℕ) (up : ℕ) → IsWithin lo hi idx → get_or lo axis 0 / s * s ≤ up → up ≤ end
-      → reduced_to Sum (type_at arrays out) (carried (option_map (λ a. line_through a axis idx) (carried_array (stored_inputs arrays held) above)) (get_or idx axis 0 / s)
-      ++ span (line_through (stored_inputs arrays held source) axis idx) (get_or idx axis 0 / s * s) up)
+      → reduced_to Sum (type_at arrays out) (carried (option_map (λ a. line_through a axis idx) (carried_array at above)) (get_or idx axis 0 / s)
+      ++ span (line_through (at source) axis idx) (get_or idx axis 0 / s * s) up)
       ≡ Some (wrapped (type_at arrays out) (given_into (type_at arrays out) sizes axis behind (differences idx lo)
       +ℤ sum_below (line_element (type_at arrays source) sizes axis front (differences idx lo)) (up - get_or lo axis 0 / s * s)))
-  sum_is above held input front behind cut typed long has idx up within low high =
-      let reads = subst (λ (b : List ℕ). ReadsRegion (array_at arrays source) own.region.lo own.region.hi (Some held) b) cut.whole has.0 in
-      let rest = subst (HasRegions arrays held (carried_walks above axis s lo hi)) cut.rest has.1 in
-      sum_told (type_at arrays source) (type_at arrays out) axis s end up lo hi idx w within low high (stored_inputs arrays held source) (option_map (stored_inputs arrays held) above) front behind
-      (reads_part (array_at arrays source) own.region.lo own.region.hi front behind held cut.long reads) (above_told above held behind typed long rest)
+  sum_is above at input front behind cut typed long has idx up within low high =
+      let reads = subst (λ (b : List ℕ). HasRegion (type_at arrays source) (at source) own.region.lo own.region.hi b) cut.whole has.0 in
+      let rest = subst (HasRegions arrays at (carried_walks above axis s lo hi)) cut.rest has.1 in
+      sum_told (type_at arrays source) (type_at arrays out) axis s end up lo hi idx w within low high (at source) (option_map at above) front behind
+      (reads_part (type_at arrays source) (at source) own.region.lo own.region.hi front behind cut.long reads) (above_told above at behind typed long rest)
 
 -- the region of a task of a grid's chunks
 task_filled : (g : RegularGrid) (task : ℕ) → IsGrid g → task < product (grid_counts g) → IsFilled g.shape (result_lo g task) (result_hi g task)
@@ -302,21 +300,21 @@ module _ (arrays : List ArrayInfo) (axis source : ℕ) (carry : Option ℕ) (out
       omega (arith, own, beside, both)
 
   -- what it makes
-  pub scan_is : (held : Contents) (input front behind output : List ℕ) → Cut (walk_room arrays (group_walk source axis scan_size (get_or scan_hi axis 0) scan_lo scan_hi)) input front behind
+  pub scan_is : (at : Elements) (input front behind output : List ℕ) → Cut (walk_room arrays (group_walk source axis scan_size (get_or scan_hi axis 0) scan_lo scan_hi)) input front behind
       → length behind ≡ beside_room arrays carry axis scan_size scan_lo scan_hi
-      → HasRegions arrays held (group_walk source axis scan_size (get_or scan_hi axis 0) scan_lo scan_hi ∷ carried_walks carry axis scan_size scan_lo scan_hi) input
+      → HasRegions arrays at (group_walk source axis scan_size (get_or scan_hi axis 0) scan_lo scan_hi ∷ carried_walks carry axis scan_size scan_lo scan_hi) input
       → ScansAs (type_at arrays source) (type_at arrays out) scan_sizes axis front behind output
       → (idx : List ℕ) → IsWithin scan_lo scan_hi idx
-      → scan_at (type_at arrays out) axis scan_size (stored_inputs arrays held source) (carried_array (stored_inputs arrays held) carry) idx ≡ buffer_element (type_at arrays out) scan_lo scan_hi output idx
-  scan_is held input front behind output cut long has sums idx within =
+      → scan_at (type_at arrays out) axis scan_size (at source) (carried_array at carry) idx ≡ buffer_element (type_at arrays out) scan_lo scan_hi output idx
+  scan_is at input front behind output cut long has sums idx within =
       let a = within_axis scan_lo scan_hi idx axis within scan_one.along in
       let start = scan_on.start in
       let base = differences idx scan_lo in
       let inside : IsInside scan_sizes (differences idx scan_lo) = subst (λ (ds : List ℕ). IsInside ds (differences idx scan_lo)) (sym scan_region_is) (within_differences scan_lo scan_hi idx within) in
-      let at = differences_at scan_lo scan_hi idx axis within in
-      let count : suc (get_or idx axis 0) - get_or scan_lo axis 0 / scan_size * scan_size ≡ suc (get_or (differences idx scan_lo) axis 0) = omega (arith, a, start, at) in
+      let there = differences_at scan_lo scan_hi idx axis within in
+      let count : suc (get_or idx axis 0) - get_or scan_lo axis 0 / scan_size * scan_size ≡ suc (get_or (differences idx scan_lo) axis 0) = omega (arith, a, start, there) in
       let X : ℕ → ℤ = λ n. given_into (type_at arrays out) scan_sizes axis behind (differences idx scan_lo) +ℤ sum_below (line_element (type_at arrays source) scan_sizes axis front (differences idx scan_lo)) n in
-      sum_is arrays axis scan_size source out (get_or scan_hi axis 0) scan_lo scan_hi scan_one carry held input front behind cut scan_typed long has idx (suc (get_or idx axis 0)) within
+      sum_is arrays axis scan_size source out (get_or scan_hi axis 0) scan_lo scan_hi scan_one carry at input front behind cut scan_typed long has idx (suc (get_or idx axis 0)) within
       (omega (arith, a, start)) (omega (arith, a))
       ∙ ap (λ n. Some (wrapped (type_at arrays out) (X n))) count
       ∙ ap (λ x. Some x) (sym (number_at (type_at arrays out) output (place_of scan_sizes (differences idx scan_lo)) (X (suc (get_or (differences idx scan_lo) axis 0))) (sums (differences idx scan_lo) inside)))
@@ -436,13 +434,13 @@ module _ (arrays : List ArrayInfo) (axis group sums : ℕ) (above : Option ℕ) 
       turn g c s = omega arith
 
   -- what it makes
-  pub carry_is : (held : Contents) (input front behind output : List ℕ) → Cut (walk_room arrays (group_walk sums axis group carry_end carry_lo carry_hi)) input front behind
+  pub carry_is : (at : Elements) (input front behind output : List ℕ) → Cut (walk_room arrays (group_walk sums axis group carry_end carry_lo carry_hi)) input front behind
       → length behind ≡ beside_room arrays above axis group carry_lo carry_hi
-      → HasRegions arrays held (group_walk sums axis group carry_end carry_lo carry_hi ∷ carried_walks above axis group carry_lo carry_hi) input
+      → HasRegions arrays at (group_walk sums axis group carry_end carry_lo carry_hi ∷ carried_walks above axis group carry_lo carry_hi) input
       → CarriesAs (type_at arrays out) carry_sizes axis front behind output
       → (idx : List ℕ) → IsWithin carry_lo carry_hi idx
-      → carry_at (type_at arrays out) axis group (stored_inputs arrays held sums) (carried_array (stored_inputs arrays held) above) idx ≡ buffer_element (type_at arrays out) carry_lo carry_hi output idx
-  carry_is held input front behind output cut long has totals idx within =
+      → carry_at (type_at arrays out) axis group (at sums) (carried_array at above) idx ≡ buffer_element (type_at arrays out) carry_lo carry_hi output idx
+  carry_is at input front behind output cut long has totals idx within =
       let a = within_axis carry_lo carry_hi idx axis within carry_one.along in
       let last = carry_last in
       let ends = carry_ends in
@@ -456,7 +454,7 @@ module _ (arrays : List ArrayInfo) (axis group sums : ℕ) (above : Option ℕ) 
       ∙ get_or-set_same (differences carry_hi carry_lo) axis (carry_end - get_or carry_lo axis 0 / group * group) 0 (let n = carry_width in omega (arith, n, b)) in
       let count : get_or idx axis 0 - get_or carry_lo axis 0 / group * group ≡ get_or carry_sizes axis 0 = omega (arith, a, ends, last, size) in
       let X : Dtype → ℕ → ℤ = λ t n. given_into acc carry_sizes axis behind (differences idx carry_lo) +ℤ sum_below (line_element t carry_sizes axis front (differences idx carry_lo)) n in
-      sum_is arrays axis group sums out carry_end carry_lo carry_hi carry_one above held input front behind cut carry_typed long has idx (get_or idx axis 0) within
+      sum_is arrays axis group sums out carry_end carry_lo carry_hi carry_one above at input front behind cut carry_typed long has idx (get_or idx axis 0) within
       (omega (arith, a, start)) (omega (arith, a, ends, last))
       ∙ (λ i. Some (wrapped acc (X (sym f.types i) (count i))))
       ∙ ap (λ x. Some x) (sym (totals (differences idx carry_lo) inside))

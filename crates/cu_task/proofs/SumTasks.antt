@@ -161,7 +161,7 @@ module _ (t : TaskView) (sound : Sound t.plan) (axis out : ℕ) (m : CarryParts 
   unfolding carry_task
   carry_values n inputs front behind output p totals =
       let value : IsComputedBy t.plan.arrays (Carry axis m.group m.sums m.above out) t.number out inputs output =
-      λ held regions idx w. carry_is t.plan.arrays axis m.group m.sums m.above out t.number carry_fits carry_grid carry_in held inputs front behind output
+      λ at regions idx w. carry_is t.plan.arrays axis m.group m.sums m.above out t.number carry_fits carry_grid carry_in at inputs front behind output
       (cut t axis m.sums out carry_task n inputs front behind p) (behind_long t axis m.sums out carry_task n inputs front behind p) regions totals idx w in
       computed_by t.plan t.op t.number (Carry axis m.group m.sums m.above out) inputs output m.is value
 
@@ -220,6 +220,6 @@ module _ (t : TaskView) (sound : Sound t.plan) (axis source out : ℕ) (m : Scan
   unfolding scan_task
   scan_values n inputs front behind output p sums =
       let value : IsComputedBy t.plan.arrays (Scan axis source m.carry out) t.number out inputs output =
-      λ held regions idx w. scan_is t.plan.arrays axis source m.carry out t.number scan_fits scan_grid scan_in held inputs front behind output
+      λ at regions idx w. scan_is t.plan.arrays axis source m.carry out t.number scan_fits scan_grid scan_in at inputs front behind output
       (cut t axis source out scan_task n inputs front behind p) (behind_long t axis source out scan_task n inputs front behind p) regions sums idx w in
       computed_by t.plan t.op t.number (Scan axis source m.carry out) inputs output m.is value

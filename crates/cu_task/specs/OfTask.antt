@@ -8,6 +8,7 @@ use Rattle.cu_op.specs.Operation.{target_of}
 use Rattle.cu_op.specs.Projection.{scratch_room}
 use Rattle.cu_op.specs.TaskView.{TaskView, task_op}
 use Rattle.cu_op.specs.Elements.{Elements}
+use Rattle.cu_op.specs.Value.{stored_inputs}
 use Rattle.cu_op.specs.Walks.{input_walks, written_chunks}
 use Rattle.cu_region.specs.Writing.{AreElements}
 use Rattle.cu_task.specs.Asks.{MayReadTask, MayReadWritten}
@@ -53,9 +54,13 @@ IsReadyFor t env shown = IsTaskReady t.plan t.op t.number env shown
 abbrev pub AreSteady : TaskView → Shown → Contents → Type 0
 AreSteady t shown held = AreSteadyInputs t.plan t.op t.number shown held
 
--- the buffer has its elements: over what is held, from the bytes of the regions that it reads, and over what is held in a depot that is steady
-abbrev pub HasMade : TaskView → Contents → List ℕ → Type 0
-HasMade t held output = HasResult t.plan t.op t.number (target_of (task_op t)) held output
+-- the elements of its inputs in what is held
+abbrev pub held_inputs : TaskView → Contents → Elements
+held_inputs t held = stored_inputs t.plan.arrays held
+
+-- the buffer has what it makes: of some elements, from the bytes of the regions that it reads, and of what is held in a depot that is steady
+abbrev pub HasMade : TaskView → Elements → List ℕ → Type 0
+HasMade t at output = HasResult t.plan t.op t.number (target_of (task_op t)) at output
 
 abbrev pub IsMadeFrom : TaskView → List ℕ → List ℕ → Type 0
 IsMadeFrom t inputs output = IsComputed t.plan t.op t.number (target_of (task_op t)) inputs output

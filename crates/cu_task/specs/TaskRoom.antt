@@ -1,9 +1,9 @@
 -- The memory that a task is lent, in its parts, and what the task makes in it. This project's own rules.
 use Rattle.std.specs.Prelude.{◌≡◌, ℕ, ◌*◌, ◌≤◌, List, length, Some}
 use Rattle.cu_store.specs.Chunks.{Allows}
-use Rattle.cu_store.specs.Held.{Contents}
 use Rattle.cu_store.specs.Steps.{Shown}
 use Rattle.cu_op.specs.Arrays.{type_at}
+use Rattle.cu_op.specs.Elements.{Elements}
 use Rattle.cu_op.specs.Projection.{instruction_count}
 use Rattle.cu_op.specs.TaskView.{TaskView, task_op}
 use Rattle.cu_region.specs.Writing.{AreElements}
@@ -20,10 +20,10 @@ pub record IsRoomOf (t : TaskView) (room : TaskRoom) : Type 0 where
   pub output : length room.output.now ≡ made_bytes t
   pub words : length room.words.now ≡ 64 * instruction_count (task_op t)
 
--- it has what the task makes: its elements, and the values that it finds, where they are stored. Over what is held
-pub record HasMadeAll (t : TaskView) (held : Contents) (room : TaskRoom) : Type 0 where
-  pub output : HasMade t held room.output.now
-  pub values : (array : ℕ) → value_array (task_op t) ≡ Some array → HasResult t.plan t.op t.number array held room.values.now
+-- it has what the task makes of some elements: its own, and the values that it finds, where they are stored
+pub record HasMadeAll (t : TaskView) (at : Elements) (room : TaskRoom) : Type 0 where
+  pub output : HasMade t at room.output.now
+  pub values : (array : ℕ) → value_array (task_op t) ≡ Some array → HasResult t.plan t.op t.number array at room.values.now
 
 -- over what is held in a depot that is steady
 pub record IsAllMadeOver (t : TaskView) (shown : Shown) (room : TaskRoom) : Type 0 where

@@ -16,7 +16,7 @@ ghost use Rattle.cu_region.specs.Calls.{Made};
 ghost use Rattle.cu_region.specs.Steady.{IsSteady};
 ghost use Rattle.cu_region.specs.Writing.{AreElements};
 ghost use Rattle.cu_task.specs.Inputs.{walk_room, room_of_walks, HasRegions, lays_from, IsWalkKey, IsTaskInputFault};
-ghost use Rattle.cu_task.specs.OfTask.{scratch_bytes, read_bytes, calls_to_read, MayRead, AreSteady, IsOwnFault};
+ghost use Rattle.cu_task.specs.OfTask.{scratch_bytes, read_bytes, calls_to_read, held_inputs, MayRead, AreSteady, IsOwnFault};
 ghost use Rattle.cu_task.specs.Task.{ReadsRegions};
 
 use arrayvec::ArrayVec;
@@ -45,7 +45,7 @@ pub(crate) fn read_regions<C: Chunks>(
     ensures open { StaysOpen (C.belongs store.now access.new) (C.may_get store.now access.old)
         (C.may_get store.now access.new) }
     ensures read { (held : Contents) → AreSteady task.now (C.shown access.old) held
-        → OnOk result (HasRegions task.now.plan.arrays held
+        → OnOk result (HasRegions task.now.plan.arrays (held_inputs task.now held)
         (input_walks task.now.plan.arrays (task_op task.now) task.now.number) inputs.new) }
     ensures step { Steps NoChange 0 (calls_to_read task.now) (C.shown access.old)
         (C.shown access.new) }
@@ -75,7 +75,7 @@ fn read_inputs<C: Chunks>(
     ensures open { StaysOpen (C.belongs store.now access.new) (C.may_get store.now access.old)
         (C.may_get store.now access.new) }
     ensures read { (held : Contents) → (C.shown access.old).held ≡ Some held → IsSteady (IsWalkKey task.now.plan.arrays walks.now) (Some held) (C.shown access.old).late
-        → OnOk result (HasRegions task.now.plan.arrays held walks.now inputs.new) }
+        → OnOk result (HasRegions task.now.plan.arrays (held_inputs task.now held) walks.now inputs.new) }
     ensures step { Steps NoChange 0 (length (cells_of_walks task.now.plan.arrays walks.now))
         (C.shown access.old) (C.shown access.new) }
     ensures all { OnOk result (Made (length (cells_of_walks task.now.plan.arrays walks.now))

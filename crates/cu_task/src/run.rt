@@ -12,7 +12,7 @@ ghost use Rattle.cu_op.specs.TaskView.{task_op};
 ghost use Rattle.cu_op.specs.Elements.{Elements};
 ghost use Rattle.cu_region.specs.Calls.{Made};
 ghost use Rattle.cu_region.specs.Writing.{AreElements};
-ghost use Rattle.cu_task.specs.OfTask.{found_bytes, calls_to_write, MayReadMade, IsReadyFor, HoldsMade, read_bytes, made_bytes, calls_to_read, MayRead, AreSteady, IsMadeFrom, AreOfItsType, ChangeBy, IsOwnFault};
+ghost use Rattle.cu_task.specs.OfTask.{found_bytes, held_inputs, calls_to_write, MayReadMade, IsReadyFor, HoldsMade, read_bytes, made_bytes, calls_to_read, MayRead, AreSteady, IsMadeFrom, AreOfItsType, ChangeBy, IsOwnFault};
 ghost use Rattle.cu_task.specs.Task.{IsTaskReady, TaskChange, HoldsCells, calls_of, HasSureCalls, IsComputing, IsComputed, IsTaskFault};
 ghost use Rattle.cu_op.specs.Operation.{value_array};
 ghost use Rattle.cu_task.specs.TaskRoom.{IsRoomOf, HasMadeAll, AreAllOfTheirTypes};
@@ -119,7 +119,7 @@ fn make_result<C: Chunks>(
         (C.may_get store.now access.new) }
     ensures room { IsRoomOf task.now room.new }
     ensures made { (held : Contents) → AreSteady task.now (C.shown access.old) held
-        → OnOk result (HasMadeAll task.now held room.new) }
+        → OnOk result (HasMadeAll task.now (held_inputs task.now held) room.new) }
     ensures elements { OnOk result (AreAllOfTheirTypes task.now room.new) }
     ensures step { Steps NoChange 0 (calls_to_read task.now) (C.shown access.old)
         (C.shown access.new) }
@@ -166,7 +166,7 @@ fn compute_result<C: Chunks>(
         (C.may_get store.now access.new) }
     ensures room { IsRoomOf task.now room.new }
     ensures made { (held : Contents) → AreSteady task.now (C.shown access.old) held
-        → OnOk result (HasMadeAll task.now held room.new) }
+        → OnOk result (HasMadeAll task.now (held_inputs task.now held) room.new) }
     ensures elements { OnOk result (AreAllOfTheirTypes task.now room.new) }
     ensures step { Steps NoChange 0 (calls_to_read task.now) (C.shown access.old)
         (C.shown access.new) }

@@ -6,6 +6,7 @@ use Rattle.cu_grid.specs.Grid.{IsGrid}
 use Rattle.cu_store.specs.Steps.{NoChange, Steps}
 use Rattle.cu_store.proofs.Steps.{steps_same, steps_then, steps_wider}
 use Rattle.cu_op.specs.Arrays.{grid_at, chunk_room}
+use Rattle.cu_op.specs.Value.{stored_inputs}
 use Rattle.cu_op.specs.Walks.{IsWalkOver, walk_cells, cells_of_walks}
 use Rattle.cu_op.specs.declared.layout.ArrayInfo.{ArrayInfo}
 use Rattle.cu_op.specs.declared.walks.Walk.{Walk}
@@ -87,8 +88,8 @@ returns-in_ok-read_walk-in-len1-up-clause-read g t c held told steady =
     let long : length c.read_walk.new.out ≡ walk_room c.args.task.now.plan.arrays c.walk-item.result = (let front_len = c.split_at_mut-own.ensures.front_len in omega arith) in
     let front = c.in_ok-read_walk-in-len1-up.ensures.read held told first in
     on_ok_then c.read_inputs.result
-    (λ has. subst (λ (ws : List Walk). HasRegions c.args.task.now.plan.arrays held ws (c.read_walk.new.out ++ c.read_inputs.new.inputs)) (sym split)
-    (regions_more c.args.task.now.plan.arrays c.walk-item.result (take (length c.args.walks.now - 1) (drop 1 c.args.walks.now)) held c.read_walk.new.out c.read_inputs.new.inputs long front
+    (λ has. subst (λ (ws : List Walk). HasRegions c.args.task.now.plan.arrays (stored_inputs c.args.task.now.plan.arrays held) ws (c.read_walk.new.out ++ c.read_inputs.new.inputs)) (sym split)
+    (regions_more c.args.task.now.plan.arrays c.walk-item.result (take (length c.args.walks.now - 1) (drop 1 c.args.walks.now)) (stored_inputs c.args.task.now.plan.arrays held) c.read_walk.new.out c.read_inputs.new.inputs long front
     (regions_before c.args.task.now.plan.arrays (take (length c.args.walks.now - 1) (drop 1 c.args.walks.now)) held mid.now c.read_inputs.new.inputs over mid.same has)))
     (c.read_inputs.ensures.read mid.now mid.told mid.steady)
 

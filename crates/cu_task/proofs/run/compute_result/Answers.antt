@@ -1,6 +1,6 @@
 use Rattle.std.proofs.Common.{◌∙◌, ◌≤◌, ℕ, sym, subst, arith}
 use Rattle.cu_op.specs.Schedule.{op_of}
-use Rattle.cu_task.specs.OfTask.{scratch_bytes}
+use Rattle.cu_task.specs.OfTask.{held_inputs, scratch_bytes}
 use Rattle.cu_task.proofs.TaskRooms.{kept_computing}
 use Rattle.std.proofs.lemmas.Result.{err_from_is_err_and}
 use Rattle.cu_task.proofs.run.compute_result.Goals as goal
@@ -15,8 +15,9 @@ compute-requires-clause-inputs g c = c.read_regions.auto.inputs ∙ c.requires.r
 
 pub returns-clause-made : goal.returns-clause-made
 returns-clause-made g c held known =
+    let at = held_inputs c.args.task.now held in
     let read = c.in_ok-read_regions.ensures.read held known in
-    record { output = c.compute.ensures.output held read; values = λ array is. c.compute.ensures.values array is held read }
+    record { output = c.compute.ensures.output at read; values = λ array is. c.compute.ensures.values array is at read }
 
 pub returns-clause-elements : goal.returns-clause-elements
 returns-clause-elements g c = record { output = c.compute.ensures.output_elements; values = c.compute.ensures.value_elements }

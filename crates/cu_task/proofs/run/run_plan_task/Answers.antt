@@ -6,7 +6,7 @@ use Rattle.cu_store.proofs.Steps.{steps_then, steps_wider, steps_none}
 use Rattle.cu_op.specs.Schedule.{op_of}
 use Rattle.cu_op.specs.TaskView.{TaskView}
 use Rattle.cu_op.specs.Walks.{written_chunks}
-use Rattle.cu_task.specs.OfTask.{AreSteady}
+use Rattle.cu_task.specs.OfTask.{AreSteady, held_inputs}
 use Rattle.cu_task.specs.Task.{TaskChange, read_calls}
 use Rattle.cu_task.specs.TaskRoom.{HasMadeAll, IsAllMadeOver}
 use Rattle.cu_task.specs.declared.room.TaskRoom.{TaskRoom}
@@ -15,7 +15,7 @@ use Rattle.cu_task.proofs.TaskSteps.{write_fault}
 use Rattle.cu_store.proofs.StaysOpen.{open_then}
 use Rattle.cu_task.proofs.run.run_plan_task.Goals as goal
 
-made_over : {t : TaskView} {shown : Shown} {room : TaskRoom} → ((held : Contents) → AreSteady t shown held → HasMadeAll t held room) → IsAllMadeOver t shown room
+made_over : {t : TaskView} {shown : Shown} {room : TaskRoom} → ((held : Contents) → AreSteady t shown held → HasMadeAll t (held_inputs t held) room) → IsAllMadeOver t shown room
 made_over made = record { output = λ held known. (made held known).output; values = λ array is held known. (made held known).values array is }
 
 pub returns-in_err-make_result-clause-step : goal.returns-in_err-make_result-clause-step
