@@ -1,8 +1,6 @@
 //! Elements of two axes that are copied along strides, by loops that fit the strides.
 ghost use Rattle.std.specs.Prelude.{◌≡◌, ◌*◌, ◌<◌, ◌≤◌, [], ◌∷◌, IsTrue, length};
-ghost use Rattle.cu_num.specs.Element.{IsSize};
-ghost use Rattle.cu_shape.specs.Index.{product};
-ghost use Rattle.cu_box.specs.Strided.{IsStridedCopy, counts};
+ghost use Rattle.cu_box.specs.Strided.{IsStridedCopy};
 ghost use Rattle.cu_box.specs.StridedSteps.{CanCopy, IsDenseAxis, IsStart, plane_axes, inner_block_of, outer_block_of};
 
 use crate::normal::far;

@@ -25,7 +25,7 @@ use Rattle.cu_command.specs.Seen.{Stepped}
 use Rattle.cu_command.specs.declared.status.Status.{Status}
 use Rattle.cu_command.specs.declared.status.Status.TheVariants.{BadChunk, DepotFailed, NoMemory}
 use Rattle.cu_check.specs.Arrays.{IsOwnTurn}
-use Rattle.cu_check.specs.Chunks.{input_of, HasHeldChunk, IsPartFault, part_end, IsChunkFault, IsPlaced, HasChunksBelow, HasAllSteady}
+use Rattle.cu_check.specs.Chunks.{input_of, HasHeldChunk, IsReadOnceFault, part_end, IsChunkFault, IsPlaced, HasChunksBelow, HasAllSteady}
 
 pub on_ok : {T E : Type 0} → (r : Result T E) (P Q : Type 0) → (P → Q) → OnOk r P → OnOk r Q
 on_ok (Ok x) P Q f h = f h
@@ -54,13 +54,13 @@ held_chunk info coord buf old new step has entry before steady =
 pub held_later : (info : ArrayInfo) (coord buf : List ℕ) (old now : Shown) → Stepped NoChange old now → HasHeldChunk info coord now buf → HasHeldChunk info coord old buf
 held_later info coord buf old now step has entry before steady = has entry (stepped_then before step) steady
 
-pub part_fault : (old new : Shown) (l : Layout) (key : List ℕ) (e : TaskFault) → IsChunkReadFault old new (λ k. k ≡ key) (bytes_of l) e → IsPartFault 1 old new l key e
+pub part_fault : (old new : Shown) (l : Layout) (key : List ℕ) (e : TaskFault) → IsChunkReadFault old new (λ k. k ≡ key) (bytes_of l) e → IsReadOnceFault 1 old new l key e
 part_fault old new l key Store h = h
 part_fault old new l key (BadPart bad got want) h = h
 part_fault old new l key NoRoom h = tt
 
 -- what the fault is answered by
-pub ended : (tries : ℕ) (old new : Shown) (l : Layout) (key : List ℕ) (e : TaskFault) → IsPartFault tries old new l key e → IsChunkFault tries old new l (λ k. k ≡ key) (part_end key e)
+pub ended : (tries : ℕ) (old new : Shown) (l : Layout) (key : List ℕ) (e : TaskFault) → IsReadOnceFault tries old new l key e → IsChunkFault tries old new l (λ k. k ≡ key) (part_end key e)
 ended tries old new l key Store h = (refl, h)
 ended tries old new l key (BadPart bad got want) h = h
 ended tries old new l key NoRoom h = tt

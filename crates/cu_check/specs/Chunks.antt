@@ -42,10 +42,10 @@ HasHeldChunk info coord now buf =
     (entry : Shown) → Stepped NoChange entry now → IsSteady (λ key. key ≡ key_at info coord) entry.held entry.late → HasChunk info coord entry.held buf
 
 -- why reading the chunk under this key ends, where it is tried so often
-abbrev pub IsPartFault : ℕ → Shown → Shown → Layout → List ℕ → TaskFault → Type 0
-IsPartFault tries old new l key Store = Rose tries old.faults new.faults
-IsPartFault tries old new l key (BadPart bad got want) = (bad ≡ key) × (want ≡ bytes_of l) × (got ≢ want) × HoldsLength new.held bad got
-IsPartFault tries old new l key NoRoom = Unit {0}
+abbrev pub IsReadOnceFault : ℕ → Shown → Shown → Layout → List ℕ → TaskFault → Type 0
+IsReadOnceFault tries old new l key Store = Rose tries old.faults new.faults
+IsReadOnceFault tries old new l key (BadPart bad got want) = (bad ≡ key) × (want ≡ bytes_of l) × (got ≢ want) × HoldsLength new.held bad got
+IsReadOnceFault tries old new l key NoRoom = Unit {0}
 
 -- what is answered where reading the chunk under this key ends so
 abbrev pub part_end : List ℕ → TaskFault → Status

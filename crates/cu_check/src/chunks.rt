@@ -8,7 +8,7 @@ ghost use Rattle.cu_region.specs.Reading.{bytes_of, key_at};
 ghost use Rattle.cu_store.specs.Steps.{Shown, NoChange};
 ghost use Rattle.cu_command.specs.Seen.{Stepped, WithinCalls};
 ghost use Rattle.cu_check.specs.Arrays.{input_chunk_count};
-ghost use Rattle.cu_check.specs.Chunks.{IsStoredArray, input_of, HasHeldChunk, IsPartFault, part_end, IsChunkFault, IsPlaced, HasChunksBelow, HasAllSteady, AtEachEntry, IsArrayFault};
+ghost use Rattle.cu_check.specs.Chunks.{IsStoredArray, input_of, HasHeldChunk, IsReadOnceFault, part_end, IsChunkFault, IsPlaced, HasChunksBelow, HasAllSteady, AtEachEntry, IsArrayFault};
 
 use cu_codec::{chunk_key, take_part};
 use cu_command::Status;
@@ -31,7 +31,7 @@ fn read_once<D: Depot>(
     requires chunk_length { length chunk.old ≡ bytes_of info.now.layout }
     ensures read { OnOk result (HasHeldChunk info.now coord.now (D.shown depot.old) chunk.new) }
     ensures step { Stepped NoChange (D.shown depot.old) (D.shown depot.new) }
-    ensures cause { IfErr result (IsPartFault 1 (D.shown depot.old) (D.shown depot.new) info.now.layout (key_at info.now coord.now)) }
+    ensures cause { IfErr result (IsReadOnceFault 1 (D.shown depot.old) (D.shown depot.new) info.now.layout (key_at info.now coord.now)) }
     ensures calls { WithinCalls 1 (D.shown depot.old) (D.shown depot.new) }
 {
     let _grid = info.layout.grid.shape();
@@ -51,7 +51,7 @@ fn read_tries<D: Depot>(
     requires chunk_length { length chunk.old ≡ bytes_of info.now.layout }
     ensures read { OnOk result (HasHeldChunk info.now coord.now (D.shown depot.old) chunk.new) }
     ensures step { Stepped NoChange (D.shown depot.old) (D.shown depot.new) }
-    ensures cause { IfErr result (IsPartFault (retries + 1) (D.shown depot.old) (D.shown depot.new) info.now.layout (key_at info.now coord.now)) }
+    ensures cause { IfErr result (IsReadOnceFault (retries + 1) (D.shown depot.old) (D.shown depot.new) info.now.layout (key_at info.now coord.now)) }
     ensures calls { WithinCalls (retries + 1) (D.shown depot.old) (D.shown depot.new) }
 {
     for _ in 0..retries {

@@ -6,10 +6,10 @@ use Rattle.cu_num.specs.declared.types.Dtype.{Dtype}
 use Rattle.cu_num.specs.declared.types.Dtype.TheVariants.{Int64, Uint64}
 
 -- the greatest number without a sign of 32 bits where the type has at most as many, else of 64
-abbrev pub span : Dtype → ℕ
-span Int64 = 2 ^ 64 - 1
-span Uint64 = 2 ^ 64 - 1
-span t = 2 ^ 32 - 1
+abbrev pub greatest_word : Dtype → ℕ
+greatest_word Int64 = 2 ^ 64 - 1
+greatest_word Uint64 = 2 ^ 64 - 1
+greatest_word t = 2 ^ 32 - 1
 
 -- the number, or the one whose bits are its complement
 abbrev pub complemented : Test → ℤ → ℤ

@@ -3,7 +3,7 @@ ghost use Rattle.std.specs.Prelude.{◌≡◌, ◌<ℤ◌, ◌≤ℤ◌, ◌^◌
 ghost use Rattle.std.specs.Int.{int_div_euclid};
 ghost use Rattle.cu_num.specs.Dtype.{InRange};
 ghost use Rattle.cu_num.specs.Division.{floor_quotient};
-ghost use Rattle.cu_kern.specs.Division.{span, complemented};
+ghost use Rattle.cu_kern.specs.Division.{greatest_word, complemented};
 
 use cu_num::{Dtype, size};
 
@@ -36,9 +36,9 @@ fn turn(below: bool, x: i128) -> i128
 #[inline]
 fn round_down(t: Dtype, x: i128, y: i128) -> i128
     requires divisor { pos 0 <ℤ y }
-    requires least { neg_ℤ (pos (span t)) ≤ℤ x }
-    requires most { x ≤ℤ pos (span t) }
-    requires own { y ≤ℤ pos (span t) }
+    requires least { neg_ℤ (pos (greatest_word t)) ≤ℤ x }
+    requires most { x ≤ℤ pos (greatest_word t) }
+    requires own { y ≤ℤ pos (greatest_word t) }
     ensures { result ≡ int_div_euclid x y }
 {
     let below = x < 0;
@@ -60,8 +60,8 @@ pub(crate) fn flip(below: bool, x: i128) -> i128
 fn divide(t: Dtype, x: i128, y: i128) -> i128
     requires first { pos 0 ≤ℤ x }
     requires divisor { pos 0 <ℤ y }
-    requires most { x ≤ℤ pos (span t) }
-    requires own { y ≤ℤ pos (span t) }
+    requires most { x ≤ℤ pos (greatest_word t) }
+    requires own { y ≤ℤ pos (greatest_word t) }
     ensures value { result ≡ int_div_euclid x y }
     ensures least { pos 0 ≤ℤ result }
     ensures most { result ≤ℤ x }

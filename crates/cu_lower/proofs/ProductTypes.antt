@@ -17,7 +17,7 @@ use Rattle.cu_copy.specs.Copies.{rechunked}
 use Rattle.cu_node.specs.Info.{IsInfo, info_of}
 use Rattle.cu_node.specs.declared.info.NodeInfo.{NodeInfo}
 use Rattle.cu_typing.specs.Accepted.{GoesInto, IsAcceptedProduct as HasPassed}
-use Rattle.cu_typing.specs.Joined.{aligned_chunk, aligned_on, chunk_on, fills, lead_of}
+use Rattle.cu_typing.specs.Joined.{aligned_chunk, aligned_on, joined_chunk_on, fills, lead_of}
 use Rattle.cu_typing.specs.Matmul.{leading, rows, columns, left_summed, leading_array, leading_arrays, leading_chunk, right_aligned, typed_matmul}
 use Rattle.cu_typing.proofs.PassedTogether.{product_passed}
 use Rattle.cu_typing.proofs.Together.{length-joined_shape}
@@ -101,9 +101,9 @@ module _ (l r made : NodeInfo) (hl : IsInfo l) (t : Dtype) (lead : List ℕ) (p 
       let rank = (p.broadcast 0 (leading_array l) (omega arith)).rank in
       elim (cases_Bool (fills lead (leading_array l) (k + lead_of lead (leading_array l)))) [
         | inl filled ↦
-            let at : get_or (leading_chunk lead l r) (k + lead_of lead (leading_array l)) 0 ≡ chunk_on lead (leading_arrays l r) (k + lead_of lead (leading_array l)) =
-            get_or-map-range_with_len (chunk_on lead (leading_arrays l r)) 0 (length lead) (k + lead_of lead (leading_array l)) (k + lead_of lead (leading_array l)) 0 (omega (arith, below, rank)) (omega arith) in
-            let own : chunk_on lead (leading_arrays l r) (k + lead_of lead (leading_array l)) ≡ get_or (leading l.chunk) (k + lead_of lead (leading_array l) - lead_of lead (leading_array l)) 0 = rw filled refl in
+            let at : get_or (leading_chunk lead l r) (k + lead_of lead (leading_array l)) 0 ≡ joined_chunk_on lead (leading_arrays l r) (k + lead_of lead (leading_array l)) =
+            get_or-map-range_with_len (joined_chunk_on lead (leading_arrays l r)) 0 (length lead) (k + lead_of lead (leading_array l)) (k + lead_of lead (leading_array l)) 0 (omega (arith, below, rank)) (omega arith) in
+            let own : joined_chunk_on lead (leading_arrays l r) (k + lead_of lead (leading_array l)) ≡ get_or (leading l.chunk) (k + lead_of lead (leading_array l) - lead_of lead (leading_array l)) 0 = rw filled refl in
             let z : k + lead_of lead (leading_array l) - lead_of lead (leading_array l) ≡ k = omega arith in
             rw filled (at ∙ own ∙ ap (λ (i : ℕ). get_or (leading l.chunk) i 0) z)
         | inr other ↦ rw other refl

@@ -11,13 +11,13 @@ use Rattle.cu_shape.proofs.Places.{outside_rank}
 use Rattle.cu_node.specs.declared.index_item.IndexItem.{IndexItem}
 use Rattle.cu_semantics.specs.Index.{natural}
 use Rattle.cu_semantics.specs.View.{indexed_from, sliced_index}
-use Rattle.cu_mean.specs.Indexing.{IsOutside}
+use Rattle.cu_mean.specs.Indexing.{IsOutsideEach}
 use Rattle.cu_mean.specs.declared.indexing.Front.{Front}
 use Rattle.cu_mean.proofs.Joined.{not_below}
 
 -- ---- outside
 
-pub outside_long : (xs : List ℕ) → 6 < length xs → IsOutside xs
+pub outside_long : (xs : List ℕ) → 6 < length xs → IsOutsideEach xs
 outside_long xs long shape short sizes = outside_rank shape xs (λ (e : length xs ≡ length shape). omega arith)
 
 and_no : (b : Bool) → (b && false) ≡ false
@@ -34,13 +34,13 @@ too_big limit (n ∷ shape) [] v rest big sizes =
 too_big limit (n ∷ shape) (r ∷ read) v rest big sizes =
     ap (λ (b : Bool). nat_lt r n && b) (too_big limit shape read v rest big (All-tail (λ m. m < limit) n shape sizes)) ∙ and_no (nat_lt r n)
 
-pub outside_big : (read : List ℕ) (v : ℕ) (rest : List ℕ) → 2 ^ 64 ≤ v → IsOutside (read ++ v ∷ rest)
+pub outside_big : (read : List ℕ) (v : ℕ) (rest : List ℕ) → 2 ^ 64 ≤ v → IsOutsideEach (read ++ v ∷ rest)
 outside_big read v rest large shape short sizes = too_big (2 ^ 64) shape read v rest large sizes
 
-pub longer : (read : List ℕ) (v : ℕ) (rest : List ℕ) → 6 ≤ length read → IsOutside (read ++ v ∷ rest)
+pub longer : (read : List ℕ) (v : ℕ) (rest : List ℕ) → 6 ≤ length read → IsOutsideEach (read ++ v ∷ rest)
 longer read v rest long = outside_long (read ++ v ∷ rest) (omega (arith, length-append read (v ∷ rest)))
 
-pub longer_by : (read more rest : List ℕ) → 6 < length read + length more → IsOutside (read ++ (more ++ rest))
+pub longer_by : (read more rest : List ℕ) → 6 < length read + length more → IsOutsideEach (read ++ (more ++ rest))
 longer_by read more rest long = outside_long (read ++ (more ++ rest)) (omega (arith, length-append read (more ++ rest), length-append more rest))
 
 -- ---- one place

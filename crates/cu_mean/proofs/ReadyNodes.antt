@@ -15,7 +15,7 @@ use Rattle.cu_expr.specs.Typing.{told_of, typed_form}
 use Rattle.cu_expr.proofs.Nodes.{typed_at, over_all}
 use Rattle.cu_expr.proofs.ToldArguments.{info_kept}
 use Rattle.cu_mean.specs.Going.{HoldFirst}
-use Rattle.cu_mean.specs.Indexing.{IsOutside}
+use Rattle.cu_mean.specs.Indexing.{IsOutsideEach}
 use Rattle.cu_mean.specs.Node.{is_input, IsReadyNode}
 use Rattle.cu_mean.specs.Plain.{PlainArray}
 use Rattle.cu_mean.specs.Reading.{element_or_zero, elements_in, HaveTypesAndShapes}
@@ -48,7 +48,7 @@ ready e infos env n node plains is types kept at other first =
 small : (i : NodeInfo) → IsInfo i → All (λ n. n < 2 ^ 64) i.dims
 small i h = All-from_get_or (λ n. n < 2 ^ 64) i.dims 0 (λ k below. let w = size_within i.dims k below in let few = h.elements in omega arith)
 
-outside_one : (infos : List NodeInfo) (plains : List PlainArray) (n : ℕ) (idx : List ℕ) (o : Option PlainArray) → All IsInfo infos → HaveTypesAndShapes infos plains → IsOutside idx
+outside_one : (infos : List NodeInfo) (plains : List PlainArray) (n : ℕ) (idx : List ℕ) (o : Option PlainArray) → All IsInfo infos → HaveTypesAndShapes infos plains → IsOutsideEach idx
     → slice_get plains n ≡ o → element_or_zero o idx ≡ pos 0
 outside_one infos plains n idx None kept have outside got = refl
 outside_one infos plains n idx (Some p) kept have outside got =
@@ -56,7 +56,7 @@ outside_one infos plains n idx (Some p) kept have outside got =
     let own = info_kept infos n kept in
     read_outside p idx (rw same (outside (info_at infos n).dims own.short (small (info_at infos n) own)))
 
-outside_from : (infos : List NodeInfo) (plains : List PlainArray) (arg : Option Arg) (idx : List ℕ) → All IsInfo infos → HaveTypesAndShapes infos plains → IsOutside idx
+outside_from : (infos : List NodeInfo) (plains : List PlainArray) (arg : Option Arg) (idx : List ℕ) → All IsInfo infos → HaveTypesAndShapes infos plains → IsOutsideEach idx
     → element_from (elements_in plains) arg idx ≡ pos 0
 outside_from infos plains None idx kept have outside = refl
 outside_from infos plains (Some (Arg.Node n)) idx kept have outside = outside_one infos plains n idx (slice_get plains n) kept have outside refl
@@ -64,6 +64,6 @@ outside_from infos plains (Some (Arg.Int x)) idx kept have outside = refl
 outside_from infos plains (Some (Arg.Truth b)) idx kept have outside = refl
 
 -- there is no element
-pub outside_source : (infos : List NodeInfo) (plains : List PlainArray) (args : List Arg) (idx : List ℕ) → All IsInfo infos → HaveTypesAndShapes infos plains → IsOutside idx
+pub outside_source : (infos : List NodeInfo) (plains : List PlainArray) (args : List Arg) (idx : List ℕ) → All IsInfo infos → HaveTypesAndShapes infos plains → IsOutsideEach idx
     → source_at (elements_in plains) args 0 idx ≡ pos 0
 outside_source infos plains args idx kept have outside = outside_from infos plains (slice_get args 0) idx kept have outside

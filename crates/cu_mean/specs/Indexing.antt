@@ -7,13 +7,13 @@ use Rattle.cu_mean.specs.declared.indexing.Front.{Front}
 use Rattle.cu_mean.specs.declared.indexing.Taken.{Taken}
 
 -- the index lies outside each array
-abbrev pub IsOutside : List ℕ → Type 0
-IsOutside idx = (shape : List ℕ) → length shape ≤ 6 → All (λ n. n < 2 ^ 64) shape → is_inside shape idx ≡ false
+abbrev pub IsOutsideEach : List ℕ → Type 0
+IsOutsideEach idx = (shape : List ℕ) → length shape ≤ 6 → All (λ n. n < 2 ^ 64) shape → is_inside shape idx ≡ false
 
 -- what is found for an index: the index itself, or nothing where it lies outside each array
 abbrev pub IsFoundIndex : List ℕ → Option (List ℕ) → Type 0
 IsFoundIndex idx (Some read) = read ≡ idx
-IsFoundIndex idx None = IsOutside idx
+IsFoundIndex idx None = IsOutsideEach idx
 
 -- the step of a slice isn't 0
 abbrev pub HasStep : IndexItem → Type 0
@@ -34,4 +34,4 @@ pub record IsFront (shape idx : List ℕ) (front : Front) : Type 0 where
 abbrev pub TakesEntry : (List IndexItem → Front → List ℕ) → List ℕ → IndexItem → Front → Front → Taken → Type 0
 TakesEntry read idx item old new Taken.Next = (items : List IndexItem) → read (item ∷ items) old ≡ read items new
 TakesEntry read idx item old new Taken.Rest = (items : List IndexItem) → read (item ∷ items) old ≡ new.read ++ drop new.at idx
-TakesEntry read idx item old new Taken.Outside = (items : List IndexItem) → IsOutside (read (item ∷ items) old)
+TakesEntry read idx item old new Taken.Outside = (items : List IndexItem) → IsOutsideEach (read (item ∷ items) old)

@@ -5,7 +5,7 @@ ghost use Rattle.cu_shape.specs.Slice.{from_end, first_of};
 ghost use Rattle.cu_node.specs.declared.index_item.IndexItem.{IndexItem};
 ghost use Rattle.cu_semantics.specs.Index.{natural};
 ghost use Rattle.cu_semantics.specs.View.{indexed, sliced_index, uses_axis};
-ghost use Rattle.cu_mean.specs.Indexing.{read_from, HasStep, IsFoundIndex, IsFront, IsOutside, TakesEntry};
+ghost use Rattle.cu_mean.specs.Indexing.{read_from, HasStep, IsFoundIndex, IsFront, IsOutsideEach, TakesEntry};
 
 use crate::axes::natural;
 use cu_form::IndexItem;
@@ -40,7 +40,7 @@ enum Taken {
 /// Appends a number, 0 for one below 0; not where no array has so many axes or so large a size.
 fn push_number(read: &mut Dims, number: i128) -> bool
     ensures pushed { OnTrue result (read.new ≡ read.old ++ natural number ∷ []) }
-    ensures outside { OnFalse result ((rest : List ℕ) → IsOutside (read.old ++ natural number ∷ rest)) }
+    ensures outside { OnFalse result ((rest : List ℕ) → IsOutsideEach (read.old ++ natural number ∷ rest)) }
 {
     if read.rank() == MOST_AXES {
         return false;

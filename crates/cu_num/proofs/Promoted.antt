@@ -6,7 +6,7 @@ use Rattle.std.proofs.Math.Nat.{pow-le-pow_right, max_comm}
 use borrow.Author.Tests.{eqb-true, ltb-true, ltb-false}
 use Rattle.std.specs.Prelude.{Bool as Test}
 use Rattle.cu_num.specs.Dtype.{size_of, bit_width, is_signed, least, greatest, InRange, IsInteger}
-use Rattle.cu_num.specs.Promotion.{Kind, Truth, Signed, Unsigned, kind_of, signed_type, unsigned_type, mixed_type, promotion_of_kinds, promotion, HasNoPromotion}
+use Rattle.cu_num.specs.Promotion.{Kind, Truth, Signed, Unsigned, kind_of_type, signed_type, unsigned_type, mixed_type, promotion_of_kinds, promotion, HasNoPromotion}
 use Rattle.cu_num.proofs.Wrapped.{bool_or_integer}
 use Rattle.cu_num.proofs.ElementBytes.{width_is}
 use Rattle.cu_num.specs.declared.types.Dtype.{Dtype}
@@ -14,7 +14,7 @@ use Rattle.cu_num.specs.declared.types.Dtype.TheVariants.{Bool, Int8, Int16, Int
 
 -- ---- a type by its kind
 
-signed_kind : (t : Dtype) → is_signed t ≡ true → kind_of t ≡ Signed (bit_width t)
+signed_kind : (t : Dtype) → is_signed t ≡ true → kind_of_type t ≡ Signed (bit_width t)
 signed_kind Bool e = cc
 signed_kind Int8 e = refl
 signed_kind Int16 e = refl
@@ -25,7 +25,7 @@ signed_kind Uint16 e = cc
 signed_kind Uint32 e = cc
 signed_kind Uint64 e = cc
 
-unsigned_kind : (t : Dtype) → IsInteger t → is_signed t ≡ false → kind_of t ≡ Unsigned (bit_width t)
+unsigned_kind : (t : Dtype) → IsInteger t → is_signed t ≡ false → kind_of_type t ≡ Unsigned (bit_width t)
 unsigned_kind Bool h e = absurd h
 unsigned_kind Int8 h e = cc
 unsigned_kind Int16 h e = cc
@@ -60,9 +60,9 @@ unsigned_back Uint64 h e = refl
 
 -- ---- the rule, by the signs
 
-of_kinds : (a b : Dtype) (k l : Kind) → kind_of a ≡ k → kind_of b ≡ l → promotion a b ≡ promotion_of_kinds k l
+of_kinds : (a b : Dtype) (k l : Kind) → kind_of_type a ≡ k → kind_of_type b ≡ l → promotion a b ≡ promotion_of_kinds k l
 unfolding promotion
-of_kinds a b k l p q = ap (λ x. promotion_of_kinds x (kind_of b)) p ∙ ap (promotion_of_kinds k) q
+of_kinds a b k l p q = ap (λ x. promotion_of_kinds x (kind_of_type b)) p ∙ ap (promotion_of_kinds k) q
 
 both_signed : (a b : Dtype) → is_signed a ≡ true → is_signed b ≡ true → promotion a b ≡ signed_type (max (bit_width a) (bit_width b))
 both_signed a b p q = of_kinds a b _ _ (signed_kind a p) (signed_kind b q)
@@ -230,7 +230,7 @@ size_pos Uint64 = omega arith
 
 pub promotion_comm : (a b : Dtype) → promotion a b ≡ promotion b a
 unfolding promotion
-promotion_comm a b = of (kind_of a) (kind_of b)
+promotion_comm a b = of (kind_of_type a) (kind_of_type b)
   where
     of : (k l : Kind) → promotion_of_kinds k l ≡ promotion_of_kinds l k
     of Truth Truth = refl

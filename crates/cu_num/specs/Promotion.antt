@@ -10,16 +10,16 @@ pub data Kind : Type 0 where
   Signed : ℕ → Kind
   Unsigned : ℕ → Kind
 
-abbrev pub kind_of : Dtype → Kind
-kind_of Bool = Truth
-kind_of Int8 = Signed 8
-kind_of Int16 = Signed 16
-kind_of Int32 = Signed 32
-kind_of Int64 = Signed 64
-kind_of Uint8 = Unsigned 8
-kind_of Uint16 = Unsigned 16
-kind_of Uint32 = Unsigned 32
-kind_of Uint64 = Unsigned 64
+abbrev pub kind_of_type : Dtype → Kind
+kind_of_type Bool = Truth
+kind_of_type Int8 = Signed 8
+kind_of_type Int16 = Signed 16
+kind_of_type Int32 = Signed 32
+kind_of_type Int64 = Signed 64
+kind_of_type Uint8 = Unsigned 8
+kind_of_type Uint16 = Unsigned 16
+kind_of_type Uint32 = Unsigned 32
+kind_of_type Uint64 = Unsigned 64
 
 -- the type of that kind, where there is one
 abbrev pub signed_type : ℕ → Option Dtype
@@ -45,7 +45,7 @@ promotion_of_kinds (Unsigned u) (Signed s) = mixed_type s u
 promotion_of_kinds (Unsigned u) (Unsigned w) = unsigned_type (max u w)
 
 unfoldable pub promotion : Dtype → Dtype → Option Dtype
-promotion a b = promotion_of_kinds (kind_of a) (kind_of b)
+promotion a b = promotion_of_kinds (kind_of_type a) (kind_of_type b)
 
 -- the pairs with no promotion: a bool with an integer type, and uint64 with a signed type
 abbrev pub HasNoPromotion : Dtype → Dtype → Type 0

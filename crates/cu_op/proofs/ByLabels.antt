@@ -21,7 +21,7 @@ use Rattle.cu_op.specs.declared.walks.Walk.{Walk}
 use Rattle.cu_op.specs.Along.{size_on, chunk_on}
 use Rattle.cu_op.specs.Arrays.{grid_at, type_at}
 use Rattle.cu_op.specs.Chunks.{walk}
-use Rattle.cu_op.specs.Grouping.{source_index, label_part, label_chunks, part_places, first_of, end_of, grouped_walk, labels_walk, end_part, IsPartRegion}
+use Rattle.cu_op.specs.Grouping.{source_index, label_part, label_chunks, part_places, first_place_of, end_place_of, grouped_walk, labels_walk, end_part, IsPartRegion}
 use Rattle.cu_op.specs.Kind.GroupFold.{GroupFoldFits}
 use Rattle.cu_op.specs.Walks.{IsWalkOver}
 use Rattle.cu_op.proofs.Filled.{IsFilled, filled_at, filled_take, filled_region, filled_lengths, within_take, within_at, past, other_default, below_range}
@@ -185,12 +185,12 @@ module _ (arrays : List ArrayInfo) (kind : FoldKind) (axis groups source labels 
 
   -- ---- the places of the axis
 
-  places_region : (lo hi : List ℕ) → IsFilled o lo hi → (first_of g axis lo ≤ end_of g axis hi) × (end_of g axis hi ≤ n)
+  places_region : (lo hi : List ℕ) → IsFilled o lo hi → (first_place_of g axis lo ≤ end_place_of g axis hi) × (end_place_of g axis hi ≤ n)
   places_region lo hi filled =
       let some = (part_bounds lo hi filled).some in
       (first_order n c (label_part g lo) (end_part g hi) (omega (arith, some)), omega arith)
 
-  places_within : (lo hi idx : List ℕ) (k : ℕ) → IsFilled o lo hi → IsWithin lo hi idx → Contains (part_places g axis idx) k → (first_of g axis lo ≤ k) × (k < end_of g axis hi)
+  places_within : (lo hi idx : List ℕ) (k : ℕ) → IsFilled o lo hi → IsWithin lo hi idx → Contains (part_places g axis idx) k → (first_place_of g axis lo ≤ k) × (k < end_place_of g axis hi)
   places_within lo hi idx k filled w there =
       let p = part_within lo hi idx filled w in
       let q = label_part g idx in
@@ -210,18 +210,18 @@ module _ (arrays : List ArrayInfo) (kind : FoldKind) (axis groups source labels 
   pub source_over : (lo hi : List ℕ) → IsFilled o lo hi → IsRegion g.shape (grouped_walk g axis source lo hi).region.lo (grouped_walk g axis source lo hi).region.hi
   source_over lo hi filled =
       let p = places_region lo hi filled in
-      region_set axis g.shape (take r lo) (take r hi) groups (first_of g axis lo) (end_of g axis hi) (own_filled lo hi filled) p.0 p.1
+      region_set axis g.shape (take r lo) (take r hi) groups (first_place_of g axis lo) (end_place_of g axis hi) (own_filled lo hi filled) p.0 p.1
 
   pub labels_over : (lo hi : List ℕ) → IsFilled o lo hi → IsRegion (grid_at arrays labels).shape (labels_walk g axis labels lo hi).region.lo (labels_walk g axis labels lo hi).region.hi
   labels_over lo hi filled =
       let p = places_region lo hi filled in
-      subst (λ (ns : List ℕ). IsRegion ns (first_of g axis lo ∷ []) (end_of g axis hi ∷ [])) (sym f.label_sizes) (p.0, p.1, tt)
+      subst (λ (ns : List ℕ). IsRegion ns (first_place_of g axis lo ∷ []) (end_place_of g axis hi ∷ [])) (sym f.label_sizes) (p.0, p.1, tt)
 
   -- what an index of the region reads
   pub source_reads : (lo hi idx : List ℕ) (k : ℕ) → IsFilled o lo hi → IsWithin lo hi idx → Contains (part_places g axis idx) k
       → IsWithin (grouped_walk g axis source lo hi).region.lo (grouped_walk g axis source lo hi).region.hi (source_index g axis idx k)
   source_reads lo hi idx k filled w there =
-      within_set axis (take r lo) (take r hi) (take r idx) (first_of g axis lo) (end_of g axis hi) k (within_take r lo hi idx w) (places_within lo hi idx k filled w there)
+      within_set axis (take r lo) (take r hi) (take r idx) (first_place_of g axis lo) (end_place_of g axis hi) k (within_take r lo hi idx w) (places_within lo hi idx k filled w there)
 
   pub labels_reads : (lo hi idx : List ℕ) (k : ℕ) → IsFilled o lo hi → IsWithin lo hi idx → Contains (part_places g axis idx) k
       → IsWithin (labels_walk g axis labels lo hi).region.lo (labels_walk g axis labels lo hi).region.hi (k ∷ [])
@@ -267,7 +267,7 @@ module _ (arrays : List ArrayInfo) (kind : FoldKind) (axis groups source labels 
     starts_at : (p : ℕ) → p < count → min n (p * c) ≡ p * c
     starts_at p h = let b = begins_on n c p h in omega (arith, b)
 
-    places_span : (lo hi : List ℕ) → IsFilled o lo hi → IsSpan o co lo hi → IsSpanOn n c (first_of g axis lo) (end_of g axis hi)
+    places_span : (lo hi : List ℕ) → IsFilled o lo hi → IsSpan o co lo hi → IsSpanOn n c (first_place_of g axis lo) (end_place_of g axis hi)
     places_span lo hi filled s =
         let p = part_bounds lo hi filled in
         let some = p.some in
@@ -281,13 +281,13 @@ module _ (arrays : List ArrayInfo) (kind : FoldKind) (axis groups source labels 
 
     pub source_span : (lo hi : List ℕ) → IsFilled o lo hi → IsSpan o co lo hi → IsSpan g.shape g.chunk (grouped_walk g axis source lo hi).region.lo (grouped_walk g axis source lo hi).region.hi
     source_span lo hi filled s =
-        span_set axis g.shape g.chunk (take r lo) (take r hi) groups (first_of g axis lo) (end_of g axis hi) (own_span lo hi s) (places_span lo hi filled s)
+        span_set axis g.shape g.chunk (take r lo) (take r hi) groups (first_place_of g axis lo) (end_place_of g axis hi) (own_span lo hi s) (places_span lo hi filled s)
 
     pub labels_span : (lo hi : List ℕ) → IsFilled o lo hi → IsSpan o co lo hi
         → IsSpan (grid_at arrays labels).shape (grid_at arrays labels).chunk (labels_walk g axis labels lo hi).region.lo (labels_walk g axis labels lo hi).region.hi
     labels_span lo hi filled s =
-        subst (λ (ns : List ℕ). IsSpan ns (grid_at arrays labels).chunk (first_of g axis lo ∷ []) (end_of g axis hi ∷ [])) (sym f.label_sizes)
-        (subst (λ (cs : List ℕ). IsSpan (n ∷ []) cs (first_of g axis lo ∷ []) (end_of g axis hi ∷ [])) (sym f.label_chunk) (places_span lo hi filled s, tt))
+        subst (λ (ns : List ℕ). IsSpan ns (grid_at arrays labels).chunk (first_place_of g axis lo ∷ []) (end_place_of g axis hi ∷ [])) (sym f.label_sizes)
+        (subst (λ (cs : List ℕ). IsSpan (n ∷ []) cs (first_place_of g axis lo ∷ []) (end_place_of g axis hi ∷ [])) (sym f.label_chunk) (places_span lo hi filled s, tt))
 
     -- ---- the chunks for a chunk of the result
 
@@ -314,7 +314,7 @@ module _ (arrays : List ArrayInfo) (kind : FoldKind) (axis groups source labels 
             at ∙ ap (λ m. label_part g d * m) unit ∙ (let z : label_part g d * 1 ≡ label_part g d = omega arith in z)
       ]
 
-      place_first : first_of g axis first ≡ label_part g d * c
+      place_first : first_place_of g axis first ≡ label_part g d * c
       place_first =
           let p = part_bounds first (chunk_hi o co d) filled in
           let some = p.some in
@@ -326,7 +326,7 @@ module _ (arrays : List ArrayInfo) (kind : FoldKind) (axis groups source labels 
 
       pub source_box : (grouped_walk g axis source (chunk_lo co d) (chunk_hi o co d)).region.lo ≡ chunk_lo g.chunk (source_index g axis d (label_part g d))
       source_box =
-          ap (λ (xs : List ℕ). set xs axis (first_of g axis first)) (take_products r d co ∙ ap (products (take r d)) first_chunks)
+          ap (λ (xs : List ℕ). set xs axis (first_place_of g axis first)) (take_products r d co ∙ ap (products (take r d)) first_chunks)
           ∙ ap (set (products (take r d) (set g.chunk axis groups)) axis) place_first
           ∙ products_set axis (take r d) g.chunk groups (label_part g d) (coord_own ∙ sym ok.ranks)
 

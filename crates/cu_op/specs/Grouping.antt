@@ -29,21 +29,21 @@ abbrev pub first_place : RegularGrid → ℕ → ℕ → ℕ
 first_place g axis part = min (size_on g axis) (part * chunk_on g axis)
 
 -- of a region of the result: the first place of its first part, and the first behind its last
-abbrev pub first_of : RegularGrid → ℕ → List ℕ → ℕ
-first_of g axis lo = first_place g axis (label_part g lo)
+abbrev pub first_place_of : RegularGrid → ℕ → List ℕ → ℕ
+first_place_of g axis lo = first_place g axis (label_part g lo)
 
 abbrev pub end_part : RegularGrid → List ℕ → ℕ
 end_part g hi = slice_index_or hi (length g.shape) 1
 
-abbrev pub end_of : RegularGrid → ℕ → List ℕ → ℕ
-end_of g axis hi = first_place g axis (end_part g hi)
+abbrev pub end_place_of : RegularGrid → ℕ → List ℕ → ℕ
+end_place_of g axis hi = first_place g axis (end_part g hi)
 
 -- the regions of the source and of the labels
 abbrev pub grouped_walk : RegularGrid → ℕ → ℕ → List ℕ → List ℕ → Walk
-grouped_walk g axis source lo hi = walk source (source_index g axis lo (first_of g axis lo)) (source_index g axis hi (end_of g axis hi))
+grouped_walk g axis source lo hi = walk source (source_index g axis lo (first_place_of g axis lo)) (source_index g axis hi (end_place_of g axis hi))
 
 abbrev pub labels_walk : RegularGrid → ℕ → ℕ → List ℕ → List ℕ → Walk
-labels_walk g axis labels lo hi = walk labels (first_of g axis lo ∷ []) (end_of g axis hi ∷ [])
+labels_walk g axis labels lo hi = walk labels (first_place_of g axis lo ∷ []) (end_place_of g axis hi ∷ [])
 
 -- a region of the result has the source's axes, and its parts are among those that there are
 pub record IsPartRegion (g : RegularGrid) (axis : ℕ) (lo hi : List ℕ) : Type 0 where

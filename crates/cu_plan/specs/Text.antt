@@ -46,8 +46,8 @@ abbrev pub reads_from : List ArrayInfo → Op → ℕ → Bool
 reads_from arrays op j = list_any (λ a. is_made_by (maker_at arrays a) j) (reads_of op)
 
 -- the operations that make the arrays which operation k reads, in their order
-abbrev pub sources_of : List ArrayInfo → ℕ → Op → List ℕ
-sources_of arrays k op = filter (reads_from arrays op) (range_with_len 0 k)
+abbrev pub makers_read : List ArrayInfo → ℕ → Op → List ℕ
+makers_read arrays k op = filter (reads_from arrays op) (range_with_len 0 k)
 
 -- numbers with a comma between each two; the byte 44 is `,`
 abbrev pub comma_text : List ℕ → List ℕ
@@ -55,7 +55,7 @@ comma_text numbers = join_by decimal (44 ∷ []) numbers
 
 -- `op K KIND node=N tasks=T cells=C projected=P reads=J,..`, with a line feed
 abbrev pub begun_line : List ArrayInfo → ℕ → Planned → List ℕ
-begun_line arrays k o = operation_fields arrays k o ++ codes " reads=" ++ comma_text (sources_of arrays k o.op) ++ 10 ∷ []
+begun_line arrays k o = operation_fields arrays k o ++ codes " reads=" ++ comma_text (makers_read arrays k o.op) ++ 10 ∷ []
 
 -- those of the operations, of which the first has number k
 abbrev pub begun_lines : List ArrayInfo → ℕ → List Planned → List ℕ

@@ -6,7 +6,7 @@ ghost use Rattle.cu_op.specs.KindText.{kind_text};
 ghost use Rattle.cu_op.specs.PlanView.{operation_at};
 ghost use Rattle.cu_plan.specs.Text.{begun_line, begun_text, comma_text, is_made_by};
 ghost use Rattle.cu_plan.specs.Text.{operation_fields, operation_line, plan_line, plan_text};
-ghost use Rattle.cu_plan.specs.Text.{reads_from, sources_of};
+ghost use Rattle.cu_plan.specs.Text.{reads_from, makers_read};
 
 use crate::sums::{cell_count, cells_of, peak, task_count};
 use cu_op::{Op, Plan, kind_name, tasks};
@@ -78,7 +78,7 @@ fn push_begun(alloc: Global, text: &mut Vec<u8>, plan: &Plan, op: u32) -> Result
 fn sources_of(alloc: Global, plan: &Plan, op: u32) -> Result<Vec<u32>, AllocError>
     requires { op < length plan.now.ops }
     ensures { IfOk result (λ sources. sources.items
-        ≡ sources_of plan.now.arrays op (operation_at plan.now.ops op).op) }
+        ≡ makers_read plan.now.arrays op (operation_at plan.now.ops op).op) }
 {
     let mut sources = Vec::new(alloc);
     for other in 0..op {

@@ -22,7 +22,7 @@ use Rattle.cu_command.specs.Seen.{Seen, Stepped}
 use Rattle.cu_command.specs.Stored.{IsArrayLayout}
 use Rattle.cu_command.specs.declared.status.Status.{Status}
 use Rattle.cu_print.specs.Print.{chunk_key_at}
-use Rattle.cu_print.specs.Runs.{IsTried, IsReadEnd, IsRunPrintFault, read_end}
+use Rattle.cu_print.specs.Runs.{IsRunReadFault, IsReadEnd, IsRunPrintFault, read_end}
 
 -- ---- limits
 
@@ -76,12 +76,12 @@ chunk_then r info coord buf entry new step steady has =
 -- ---- why a read ends
 
 pub tried_once : (info : ArrayInfo) (coord : List ℕ) (old new : Shown) (e : TaskFault)
-    → IsChunkReadFault old new (λ key. key ≡ key_at info coord) (bytes_of info.layout) e → IsTried 1 old new info.layout (key_at info coord) e
+    → IsChunkReadFault old new (λ key. key ≡ key_at info coord) (bytes_of info.layout) e → IsRunReadFault 1 old new info.layout (key_at info coord) e
 tried_once info coord old new Store h = h
 tried_once info coord old new (BadChunk key got want) h = (h.0, (h.1, h.2, h.3))
 tried_once info coord old new NoMemory h = tt
 
-tried_since : (tries : ℕ) (old mid new : Shown) (l : Layout) (key : List ℕ) (e : TaskFault) → old.faults ≤ mid.faults → IsTried tries mid new l key e → IsTried tries old new l key e
+tried_since : (tries : ℕ) (old mid new : Shown) (l : Layout) (key : List ℕ) (e : TaskFault) → old.faults ≤ mid.faults → IsRunReadFault tries mid new l key e → IsRunReadFault tries old new l key e
 tried_since tries old mid new l key Store count h = let rose = h in omega arith
 tried_since tries old mid new l key (BadChunk bad got want) count h = h
 tried_since tries old mid new l key NoMemory count h = tt
@@ -95,7 +95,7 @@ pub run_fault : (tries : ℕ) (info : ArrayInfo) (place : ℕ) (old new : Seen) 
     → IsReadEnd tries old.depot new.depot info.layout (chunk_key_at info.prefix info.layout place) status → IsRunPrintFault tries info place old new status
 run_fault tries info place old new status told (fault, same, tried) = subst (IsRunPrintFault tries info place old new) (sym same) (by_cause fault tried)
   where
-    by_cause : (fault : TaskFault) → IsTried tries old.depot new.depot info.layout (chunk_key_at info.prefix info.layout place) fault
+    by_cause : (fault : TaskFault) → IsRunReadFault tries old.depot new.depot info.layout (chunk_key_at info.prefix info.layout place) fault
         → IsRunPrintFault tries info place old new (read_end (chunk_key_at info.prefix info.layout place) fault)
     by_cause Store tried = (told, refl, tried)
     by_cause (BadChunk key got want) tried = (told, tried.0, tried.1)

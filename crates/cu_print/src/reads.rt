@@ -11,7 +11,7 @@ ghost use Rattle.cu_region.specs.Steady.{IsSteady};
 ghost use Rattle.cu_store.specs.Steps.{Shown, NoChange};
 ghost use Rattle.cu_command.specs.Seen.{Stepped, WithinCalls};
 ghost use Rattle.cu_print.specs.Bands.{HasFirst, IsBandUnread};
-ghost use Rattle.cu_print.specs.Runs.{IsPrintable, IsTried, IsReadEnd, read_end};
+ghost use Rattle.cu_print.specs.Runs.{IsPrintable, IsRunReadFault, IsReadEnd, read_end};
 
 use crate::runs::extents;
 use cu_codec::{chunk_bytes, chunk_key, take_part};
@@ -45,7 +45,7 @@ fn read_once<D: Depot>(
     ensures read { (entry : Shown) → Stepped NoChange entry (D.shown depot.old)
         → IsSteady (λ key. key ≡ key_at info.now coord.now) entry.held entry.late → OnOk result (HasChunk info.now coord.now entry.held buf.new) }
     ensures step { Stepped NoChange (D.shown depot.old) (D.shown depot.new) }
-    ensures cause { IfErr result (IsTried 1 (D.shown depot.old) (D.shown depot.new) info.now.layout (key_at info.now coord.now)) }
+    ensures cause { IfErr result (IsRunReadFault 1 (D.shown depot.old) (D.shown depot.new) info.now.layout (key_at info.now coord.now)) }
     ensures calls { WithinCalls 1 (D.shown depot.old) (D.shown depot.new) }
 {
     read_chunk::<InDepot<D>>(&(), depot, info, coord, buf)
@@ -65,7 +65,7 @@ fn read_tries<D: Depot>(
     ensures read { (entry : Shown) → Stepped NoChange entry (D.shown depot.old)
         → IsSteady (λ key. key ≡ key_at info.now coord.now) entry.held entry.late → OnOk result (HasChunk info.now coord.now entry.held buf.new) }
     ensures step { Stepped NoChange (D.shown depot.old) (D.shown depot.new) }
-    ensures cause { IfErr result (IsTried (retries + 1) (D.shown depot.old) (D.shown depot.new) info.now.layout (key_at info.now coord.now)) }
+    ensures cause { IfErr result (IsRunReadFault (retries + 1) (D.shown depot.old) (D.shown depot.new) info.now.layout (key_at info.now coord.now)) }
     ensures calls { WithinCalls (retries + 1) (D.shown depot.old) (D.shown depot.new) }
 {
     for _ in 0..retries {

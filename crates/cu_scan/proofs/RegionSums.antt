@@ -14,7 +14,7 @@ use Rattle.cu_reduce.specs.Numbers.{HasNumber, line_element}
 use Rattle.cu_reduce.specs.Prefix.{sum_below}
 use Rattle.cu_pairs.proofs.Sizes.{HasSizes, take_set, drop_set}
 use Rattle.cu_pairs.proofs.WholeGroups.{product_split}
-use Rattle.cu_scan.specs.Scanned.{given_at, given_into, row_element, IsGiven, HasBlocks, HasTotals}
+use Rattle.cu_scan.specs.Scanned.{carried_at, given_into, row_element, IsCarriedInto, HasBlocks, HasTotals}
 use Rattle.cu_scan.proofs.RowSums.{sums_same}
 
 pub some_of : (n size bytes : ℕ) → bytes ≡ n * size → 0 < bytes → 0 < n
@@ -129,8 +129,8 @@ carry_room ns axis width blocks count size bytes h e =
     omega arith
 
 pub carry_given : (acc : Dtype) (ns : List ℕ) (axis width blocks count : ℕ) (above : List ℕ)
-    → HasCarrySizes ns axis width blocks count → IsGiven acc (product (set ns axis 1)) above
-    → IsGiven acc (blocks * width) above
+    → HasCarrySizes ns axis width blocks count → IsCarriedInto acc (product (set ns axis 1)) above
+    → IsCarriedInto acc (blocks * width) above
 carry_given acc ns axis width blocks count above h g some =
     let all : product (set ns axis 1) ≡ blocks * width = counts_set ns axis h.below
     ∙ (λ i. sym h.before i * sym h.behind i) in
@@ -168,8 +168,8 @@ front_own (n ∷ ns) (suc axis) (i ∷ is) b h =
 -- ---- what the buffers have
 
 pub scan_given : (acc : Dtype) (ns : List ℕ) (axis width blocks count : ℕ) (carry : List ℕ)
-    → HasSizes ns axis width blocks count → IsGiven acc (product (set ns axis 1)) carry
-    → IsGiven acc (blocks * width) carry
+    → HasSizes ns axis width blocks count → IsCarriedInto acc (product (set ns axis 1)) carry
+    → IsCarriedInto acc (blocks * width) carry
 scan_given acc ns axis width blocks count carry h g some =
     let all : product (set ns axis 1) ≡ blocks * width =
     counts_set ns axis h.below ∙ (λ i. sym h.before i * sym h.behind i) in
@@ -207,7 +207,7 @@ region_sums t acc dims axis width blocks count input carry new h sums idx inside
     subst (λ p. HasNumber acc new p (given_into acc dims axis carry idx
     +ℤ sum_below (line_element t dims axis input idx) (suc j))) (sym here)
     (sums o (omega arith) j q (omega arith) (omega arith)
-    ∙ (λ i. element_bytes Little acc (given_at acc carry (sym from i)
+    ∙ (λ i. element_bytes Little acc (carried_at acc carry (sym from i)
     +ℤ sums_same (λ k. row_element t width input (o * count + k) q)
     (line_element t dims axis input idx) (suc j) each i)))
 
@@ -237,7 +237,7 @@ carry_sums acc dims axis width blocks count sums above new h totals idx inside =
     ≡ line_element acc dims axis sums idx k =
     λ k b. ap (element_at Little acc sums) (sym (place k)) in
     ap (element_at Little acc new) from ∙ totals o (omega arith) q (omega arith)
-    ∙ (λ i. wrapped acc (given_at acc above (sym front i)
+    ∙ (λ i. wrapped acc (carried_at acc above (sym front i)
     +ℤ sums_same (λ k. row_element acc width sums (o * count + k) q)
     (line_element acc dims axis sums idx) count each i))
     ∙ ap (λ n. wrapped acc (given_into acc dims axis above idx

@@ -16,19 +16,19 @@ use borrow.Rule.Slice.PartMut.{put_mid}
 use Rattle.cu_pairs.proofs.BlockParts.{bytes_below}
 use Rattle.cu_pairs.proofs.Parts.{part_inside}
 use Rattle.cu_reduce.specs.Prefix.{sum_below}
-use Rattle.cu_scan.specs.Scanned.{given_at, row_element, column_sum, IsGiven, AddsRow, KeepsRows, HasRows, HasBlocks, StartsRow, HasTotal, HasTotals}
+use Rattle.cu_scan.specs.Scanned.{carried_at, row_element, column_sum, IsCarriedInto, AddsRow, KeepsRows, HasSummedRows, HasBlocks, StartsRow, HasTotal, HasTotals}
 use Rattle.cu_scan.proofs.Buffers.{number_read, start_sum, more_summed}
 use Rattle.cu_scan.proofs.Buffers.{number_added}
 
 -- ---- what is carried in
 
 pub given_none : (acc : Dtype) (carry : List ℕ) (p : ℕ) → length carry ≡ 0
-    → given_at acc carry p ≡ pos 0
+    → carried_at acc carry p ≡ pos 0
 given_none acc [] p e = refl
 given_none acc (b ∷ bytes) p e = absurd (omega arith)
 
 pub given_some : (acc : Dtype) (carry : List ℕ) (p : ℕ) → 0 < length carry
-    → given_at acc carry p ≡ element_at Little acc carry p
+    → carried_at acc carry p ≡ element_at Little acc carry p
 given_some acc [] p h = absurd (omega arith)
 given_some acc (b ∷ bytes) p h = refl
 
@@ -81,10 +81,10 @@ none_first : (x : ℤ) → x ≡ pos 0 +ℤ x
 none_first x = omega (arith, ints)
 
 pub rows_first : (t acc : Dtype) (rows inner o : ℕ) (input carry out : List ℕ)
-    → AddsRow t acc inner (λ q. given_at acc carry (o * inner + q)) (row_element t inner input
-    (o * rows)) (o * rows) out → HasRows t acc rows inner o 1 input carry out
+    → AddsRow t acc inner (λ q. carried_at acc carry (o * inner + q)) (row_element t inner input
+    (o * rows)) (o * rows) out → HasSummedRows t acc rows inner o 1 input carry out
 rows_first t acc rows inner o input carry out h zero q b less =
-    let g = given_at acc carry (o * inner + q) in
+    let g = carried_at acc carry (o * inner + q) in
     let e : o * rows ≡ o * rows + 0 = omega arith in
     subst (λ k. HasNumber acc out (k * inner + q) (g +ℤ (pos 0 +ℤ row_element t inner input k q))) e
     (h q less ∙ ap (λ z. element_bytes Little acc (g
@@ -92,11 +92,11 @@ rows_first t acc rows inner o input carry out h zero q b less =
 rows_first t acc rows inner o input carry out h (suc j) q b less = absurd (omega arith)
 
 pub rows_more : (t acc : Dtype) (rows inner o j : ℕ) (input carry old new : List ℕ)
-    → IsInteger acc → HasRows t acc rows inner o (suc j) input carry old
+    → IsInteger acc → HasSummedRows t acc rows inner o (suc j) input carry old
     → AddsRow t acc inner (row_element acc inner old (o * rows + j)) (row_element t inner input
     (suc (o * rows + j))) (suc (o * rows + j)) new
     → KeepsRows acc inner (suc (o * rows + j)) old new
-    → HasRows t acc rows inner o (suc (suc j)) input carry new
+    → HasSummedRows t acc rows inner o (suc (suc j)) input carry new
 rows_more t acc rows inner o j input carry old new a h adds keeps i q b less =
     ⊎_elim (λ before. keeps (o * rows + i) q (omega arith) less ∙ h i q before less)
     (λ more. let last : suc j ≡ i = omega arith in
@@ -107,7 +107,7 @@ rows_more t acc rows inner o j input carry old new a h adds keeps i q b less =
     own : HasNumber acc new ((o * rows + suc j) * inner + q)
         (column_sum t acc rows inner input carry o q (suc (suc j)))
     own =
-        let g = given_at acc carry (o * inner + q) in
+        let g = carried_at acc carry (o * inner + q) in
         let f : ℕ → ℤ = λ k. row_element t inner input (o * rows + k) q in
         let so_far = column_sum t acc rows inner input carry o q (suc j) in
         let e : suc (o * rows + j) ≡ o * rows + suc j = omega arith in
@@ -131,21 +131,21 @@ sums_same f g zero h = refl
 sums_same f g (suc n) h = (λ i. sums_same f g n (λ k b. h k (omega arith)) i +ℤ h n (omega arith) i)
 
 pub line_rows : (t acc : Dtype) (rows o : ℕ) (input carry part own new : List ℕ) (first : ℤ)
-    → first ≡ given_at acc carry o
+    → first ≡ carried_at acc carry o
     → ((q : ℕ) → q < rows → element_at Little t part q ≡ row_element t rows input o q)
     → ((j : ℕ) → j < rows → HasNumber acc own j (first
     +ℤ sum_below (λ k. element_at Little t part k) (suc j)))
     → ((k : ℕ) → k < rows → bytes_at acc new (o * rows + k) ≡ bytes_at acc own k)
-    → HasRows t acc rows 1 o rows input carry new
+    → HasSummedRows t acc rows 1 o rows input carry new
 line_rows t acc rows o input carry part own new first is elements sums here j q b less =
     let place : o * rows + j ≡ (o * rows + j) * 1 + q = omega arith in
     let from : o ≡ o * 1 + q = omega arith in
-    let given : first ≡ given_at acc carry (o * 1 + q) = is ∙ ap (given_at acc carry) from in
+    let given : first ≡ carried_at acc carry (o * 1 + q) = is ∙ ap (carried_at acc carry) from in
     let each : (k : ℕ) → k < suc j → element_at Little t part k
     ≡ row_element t 1 input (o * rows + k) q = λ k c.
     elements k (omega arith) ∙ ap (element_at Little t input) (let e : o * rows + k
     ≡ (o * rows + k) * 1 + q = omega arith in e) in
-    subst (λ p. HasNumber acc new p (given_at acc carry (o * 1 + q)
+    subst (λ p. HasNumber acc new p (carried_at acc carry (o * 1 + q)
     +ℤ sum_below (λ k. row_element t 1 input (o * rows + k) q) (suc j))) place
     (here j b ∙ sums j b ∙ (λ i. element_bytes Little acc (given i
     +ℤ sums_same (λ k. element_at Little t part k) (λ k. row_element t 1 input
@@ -175,7 +175,7 @@ block_reach at blocks rows inner size bytes b h =
     omega arith
 
 pub given_reach : (acc : Dtype) (at blocks inner : ℕ) (carry : List ℕ) → at < blocks
-    → IsGiven acc (blocks * inner) carry → IsGiven acc (at * inner + inner) carry
+    → IsCarriedInto acc (blocks * inner) carry → IsCarriedInto acc (at * inner + inner) carry
 given_reach acc at blocks inner carry b h some =
     let far : suc at * (inner * size_of acc)
     ≤ blocks * (inner * size_of acc) = mul-le-mul_right (inner * size_of acc) b in
@@ -184,15 +184,15 @@ given_reach acc at blocks inner carry b h some =
 
 pub blocks_more : (t acc : Dtype) (rows inner at : ℕ) (input carry old new : List ℕ)
     → HasBlocks t acc rows inner at input carry old
-    → KeepsRows acc inner (at * rows) old new → HasRows t acc rows inner at rows input carry new
+    → KeepsRows acc inner (at * rows) old new → HasSummedRows t acc rows inner at rows input carry new
     → HasBlocks t acc rows inner (suc at) input carry new
 blocks_more t acc rows inner at input carry old new h keeps own o b =
     ⊎_elim (λ before. earlier before)
     (λ more. let last : at ≡ o = omega arith in
-    subst (λ k. HasRows t acc rows inner k rows input carry new) last own)
+    subst (λ k. HasSummedRows t acc rows inner k rows input carry new) last own)
     (cases_lt o at)
   where
-    earlier : o < at → HasRows t acc rows inner o rows input carry new
+    earlier : o < at → HasSummedRows t acc rows inner o rows input carry new
     earlier before j q c less =
         let far : suc o * rows ≤ at * rows = mul-le-mul_right rows before in
         keeps (o * rows + j) q (omega arith) less ∙ h o before j q c less
@@ -210,7 +210,7 @@ pub total_more : (acc : Dtype) (rows inner o n : ℕ) (sums above old new : List
     → AddsRow acc acc inner (row_element acc inner old o) (row_element acc inner sums
     (o * rows + n)) o new → HasTotal acc rows inner o (suc n) sums above new
 total_more acc rows inner o n sums above old new a h adds q less =
-    let g = given_at acc above (o * inner + q) in
+    let g = carried_at acc above (o * inner + q) in
     let f : ℕ → ℤ = λ k. row_element acc inner sums (o * rows + k) q in
     number_read acc new (o * inner + q) (row_element acc inner old o q +ℤ f n) (adds q less)
     ∙ more_summed acc g (sum_below f n) (row_element acc inner old o q) (f n) a (h q less)

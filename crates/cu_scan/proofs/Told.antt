@@ -21,7 +21,7 @@ use Rattle.cu_reduce.specs.Numbers.{line_element}
 use Rattle.cu_reduce.specs.Prefix.{Line, line_through, span, sum_below}
 use Rattle.cu_reduce.specs.Tiers.{Array}
 use Rattle.cu_reduce.proofs.Given.{alone_given, carried_given}
-use Rattle.cu_scan.specs.Scanned.{given_at, given_into}
+use Rattle.cu_scan.specs.Scanned.{carried_at, given_into}
 use Rattle.cu_scan.proofs.RegionSums.{set_twice}
 use Rattle.cu_scan.proofs.RowSums.{given_none, given_some, sums_same}
 

@@ -3,7 +3,7 @@ ghost use Rattle.std.specs.Prelude.{◌≡◌, ◌+◌, ◌*◌, ◌≤◌, ◌<
 ghost use Rattle.cu_num.specs.Dtype.{size_of, InRange, IsInteger};
 ghost use Rattle.cu_num.specs.Element.{element_at};
 ghost use Rattle.cu_num.specs.declared.layout.Endian.TheVariants.{Little};
-ghost use Rattle.cu_scan.specs.Scanned.{given_at, row_element, IsGiven, AddsRow, KeepsRows, HasRows, HasBlocks};
+ghost use Rattle.cu_scan.specs.Scanned.{carried_at, row_element, IsCarriedInto, AddsRow, KeepsRows, HasSummedRows, HasBlocks};
 
 use crate::rows::{add_row, scan_run, take_row, zero_row};
 use cu_num::{Dtype, load, size};
@@ -25,10 +25,10 @@ pub(crate) fn row_of(input: &[u8], t: Dtype, inner: usize, row: usize) -> &[u8]
 /// Writes what is carried in from element `from` on, or zeros.
 #[inline(always)]
 pub(crate) fn start_row(acc: Dtype, count: usize, from: usize, carry: &[u8], out: &mut [u8])
-    requires carry { IsGiven acc (from + count) carry.now }
+    requires carry { IsCarriedInto acc (from + count) carry.now }
     requires out { length out.old ≡ count * size_of acc }
     ensures { (q : ℕ) → q < count → element_at Little acc out.new q
-        ≡ given_at acc carry.now (from + q) }
+        ≡ carried_at acc carry.now (from + q) }
 {
     if carry.is_empty() {
         zero_row(acc, count, out);
@@ -53,9 +53,9 @@ fn first_row(
     requires acc { IsInteger acc }
     requires at { at ≤ row }
     requires input { (row * inner + inner) * size_of t ≤ length input.now }
-    requires carry { IsGiven acc (at * inner + inner) carry.now }
+    requires carry { IsCarriedInto acc (at * inner + inner) carry.now }
     requires out { (row * inner + inner) * size_of acc ≤ length out.old }
-    ensures adds { AddsRow t acc inner (λ q. given_at acc carry.now (at * inner + q))
+    ensures adds { AddsRow t acc inner (λ q. carried_at acc carry.now (at * inner + q))
         (row_element t inner input.now row) row out.new }
     ensures keeps { KeepsRows acc inner row out.old out.new }
     ensures same_length { length out.new ≡ length out.old }
@@ -109,9 +109,9 @@ fn scan_block(
     requires rows { 0 < rows }
     requires inner { 0 < inner }
     requires input { (at * rows + rows) * inner * size_of t ≤ length input.now }
-    requires carry { IsGiven acc (at * inner + inner) carry.now }
+    requires carry { IsCarriedInto acc (at * inner + inner) carry.now }
     requires out { (at * rows + rows) * inner * size_of acc ≤ length out.old }
-    ensures rows { HasRows t acc rows inner at rows input.now carry.now out.new }
+    ensures rows { HasSummedRows t acc rows inner at rows input.now carry.now out.new }
     ensures keeps { KeepsRows acc inner (at * rows) out.old out.new }
     ensures same_length { length out.new ≡ length out.old }
 {
@@ -125,8 +125,8 @@ fn scan_block(
 /// What is carried in at a place, 0 where nothing is.
 #[inline(always)]
 fn given_number(acc: Dtype, carry: &[u8], at: usize) -> i128
-    requires carry { IsGiven acc (at + 1) carry.now }
-    ensures value { result ≡ given_at acc carry.now at }
+    requires carry { IsCarriedInto acc (at + 1) carry.now }
+    ensures value { result ≡ carried_at acc carry.now at }
     ensures range { InRange acc result }
 {
     if carry.is_empty() {
@@ -149,9 +149,9 @@ fn scan_line(
 )
     requires acc { IsInteger acc }
     requires input { (at * rows + rows) * size_of t ≤ length input.now }
-    requires carry { IsGiven acc (at + 1) carry.now }
+    requires carry { IsCarriedInto acc (at + 1) carry.now }
     requires out { (at * rows + rows) * size_of acc ≤ length out.old }
-    ensures rows { HasRows t acc rows 1 at rows input.now carry.now out.new }
+    ensures rows { HasSummedRows t acc rows 1 at rows input.now carry.now out.new }
     ensures keeps { KeepsRows acc 1 (at * rows) out.old out.new }
     ensures same_length { length out.new ≡ length out.old }
 {
@@ -179,9 +179,9 @@ fn scan_part(
     requires rows { 0 < rows }
     requires inner { 0 < inner }
     requires input { (at * rows + rows) * inner * size_of t ≤ length input.now }
-    requires carry { IsGiven acc (at * inner + inner) carry.now }
+    requires carry { IsCarriedInto acc (at * inner + inner) carry.now }
     requires out { (at * rows + rows) * inner * size_of acc ≤ length out.old }
-    ensures rows { HasRows t acc rows inner at rows input.now carry.now out.new }
+    ensures rows { HasSummedRows t acc rows inner at rows input.now carry.now out.new }
     ensures keeps { KeepsRows acc inner (at * rows) out.old out.new }
     ensures same_length { length out.new ≡ length out.old }
 {
@@ -214,7 +214,7 @@ pub(crate) fn scan_blocks(
     requires rows { 0 < parts.rows }
     requires inner { 0 < parts.inner }
     requires input { parts.blocks * parts.rows * parts.inner * size_of t ≤ length input.now }
-    requires carry { IsGiven acc (parts.blocks * parts.inner) carry.now }
+    requires carry { IsCarriedInto acc (parts.blocks * parts.inner) carry.now }
     requires out { parts.blocks * parts.rows * parts.inner * size_of acc ≤ length out.old }
     ensures { HasBlocks t acc parts.rows parts.inner parts.blocks input.now carry.now out.new }
 {

@@ -1,7 +1,7 @@
 //! What is carried into a place: sums of partial sums.
 ghost use Rattle.std.specs.Prelude.{◌≡◌, ◌+◌, ◌*◌, ◌≤◌, ◌<◌, length};
 ghost use Rattle.cu_num.specs.Dtype.{size_of, IsInteger};
-ghost use Rattle.cu_scan.specs.Scanned.{row_element, IsGiven, AddsRow, KeepsRows, StartsRow, HasTotal, HasTotals};
+ghost use Rattle.cu_scan.specs.Scanned.{row_element, IsCarriedInto, AddsRow, KeepsRows, StartsRow, HasTotal, HasTotals};
 
 use crate::blocks::{Parts, row_of, start_row};
 use crate::rows::take_row;
@@ -10,7 +10,7 @@ use cu_num::{Dtype, size};
 /// Writes what is carried in, or zeros, as row `at`.
 #[inline(always)]
 fn start_at(acc: Dtype, inner: usize, at: usize, above: &[u8], out: &mut [u8])
-    requires above { IsGiven acc (at * inner + inner) above.now }
+    requires above { IsCarriedInto acc (at * inner + inner) above.now }
     requires out { (at * inner + inner) * size_of acc ≤ length out.old }
     ensures starts { StartsRow acc inner at above.now out.new }
     ensures keeps { KeepsRows acc inner at out.old out.new }
@@ -55,7 +55,7 @@ fn carry_block(
     requires acc { IsInteger acc }
     requires inner { 0 < inner }
     requires sums { (at * rows + rows) * inner * size_of acc ≤ length sums.now }
-    requires above { IsGiven acc (at * inner + inner) above.now }
+    requires above { IsCarriedInto acc (at * inner + inner) above.now }
     requires out { (at * inner + inner) * size_of acc ≤ length out.old }
     ensures total { HasTotal acc rows inner at rows sums.now above.now out.new }
     ensures keeps { KeepsRows acc inner at out.old out.new }
@@ -73,7 +73,7 @@ fn carry_blocks(acc: Dtype, parts: Parts, sums: &[u8], above: &[u8], out: &mut [
     requires acc { IsInteger acc }
     requires inner { 0 < parts.inner }
     requires sums { parts.blocks * parts.rows * parts.inner * size_of acc ≤ length sums.now }
-    requires above { IsGiven acc (parts.blocks * parts.inner) above.now }
+    requires above { IsCarriedInto acc (parts.blocks * parts.inner) above.now }
     requires out { parts.blocks * parts.inner * size_of acc ≤ length out.old }
     ensures { HasTotals acc parts.rows parts.inner parts.blocks sums.now above.now out.new }
 {
@@ -87,7 +87,7 @@ pub(crate) fn carry_by_type(acc: Dtype, parts: Parts, sums: &[u8], above: &[u8],
     requires acc { IsInteger acc }
     requires inner { 0 < parts.inner }
     requires sums { parts.blocks * parts.rows * parts.inner * size_of acc ≤ length sums.now }
-    requires above { IsGiven acc (parts.blocks * parts.inner) above.now }
+    requires above { IsCarriedInto acc (parts.blocks * parts.inner) above.now }
     requires out { parts.blocks * parts.inner * size_of acc ≤ length out.old }
     ensures { HasTotals acc parts.rows parts.inner parts.blocks sums.now above.now out.new }
 {

@@ -7,7 +7,7 @@ ghost use Rattle.cu_num.specs.declared.layout.Endian.TheVariants.{Little};
 ghost use Rattle.cu_reduce.specs.Numbers.{HasNumber, line_element};
 ghost use Rattle.cu_reduce.specs.Prefix.{sum_below};
 ghost use Rattle.cu_shape.specs.Index.{product, place_of, IsInside};
-ghost use Rattle.cu_scan.specs.Scanned.{given_into, IsGiven};
+ghost use Rattle.cu_scan.specs.Scanned.{given_into, IsCarriedInto};
 
 use crate::blocks::Parts;
 use crate::carries::carry_by_type;
@@ -33,7 +33,7 @@ pub fn scan_region(
     requires acc { IsInteger acc }
     requires axis { axis < length dims.now }
     requires input { length input.now ≡ product dims.now * size_of t }
-    requires carry { IsGiven acc (product (slice_set dims.now axis 1)) carry.now }
+    requires carry { IsCarriedInto acc (product (slice_set dims.now axis 1)) carry.now }
     requires out { length out.old ≡ product dims.now * size_of acc }
     ensures { (idx : List ℕ) → IsInside dims.now idx
         → HasNumber acc out.new (place_of dims.now idx)
@@ -60,7 +60,7 @@ pub fn carry_region(acc: Dtype, dims: &Dims, axis: u32, sums: &[u8], above: &[u8
     requires acc { IsInteger acc }
     requires axis { axis < length dims.now }
     requires sums { length sums.now ≡ product dims.now * size_of acc }
-    requires above { IsGiven acc (product (slice_set dims.now axis 1)) above.now }
+    requires above { IsCarriedInto acc (product (slice_set dims.now axis 1)) above.now }
     requires out { length out.old ≡ product (slice_set dims.now axis 1) * size_of acc }
     ensures { (idx : List ℕ) → IsInside (slice_set dims.now axis 1) idx
         → element_at Little acc out.new (place_of (slice_set dims.now axis 1) idx)

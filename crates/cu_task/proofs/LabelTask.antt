@@ -22,7 +22,7 @@ use Rattle.cu_codec.specs.Parts.{place_within}
 use Rattle.cu_codec.proofs.Shared.{within_sizes}
 use Rattle.cu_op.specs.Along.{size_on, chunk_on}
 use Rattle.cu_op.specs.Arrays.{grid_at, type_at, grid_counts}
-use Rattle.cu_op.specs.Grouping.{source_index, label_part, end_part, part_places, first_of, end_of, grouped_walk, labels_walk}
+use Rattle.cu_op.specs.Grouping.{source_index, label_part, end_part, part_places, first_place_of, end_place_of, grouped_walk, labels_walk}
 use Rattle.cu_op.specs.Kind.GroupFold.{GroupFoldFits}
 use Rattle.cu_op.specs.Elements.{Elements}
 use Rattle.cu_op.specs.declared.layout.ArrayInfo.{ArrayInfo}
@@ -120,10 +120,10 @@ module _ (arrays : List ArrayInfo) (kind : FoldKind) (axis groups source labels 
   hi = result_hi (grid_at arrays out) task
 
   abbrev first : ℕ
-  first = first_of g axis lo
+  first = first_place_of g axis lo
 
   abbrev end : ℕ
-  end = end_of g axis hi
+  end = end_place_of g axis hi
 
   coordinate : IsInside (grid_counts (grid_at arrays out)) (index_at (grid_counts (grid_at arrays out)) task)
   coordinate = index-inside (grid_counts (grid_at arrays out)) task h

@@ -25,7 +25,7 @@ use Rattle.cu_reduce.specs.Numbers.{HasNumber, line_element}
 use Rattle.cu_reduce.specs.Places.{is_sought}
 use Rattle.cu_reduce.specs.Prefix.{line_through, span, sum_below}
 use Rattle.cu_reduce.specs.Tiers.{carry_at, scan_at}
-use Rattle.cu_scan.specs.Scanned.{given_into, IsGiven}
+use Rattle.cu_scan.specs.Scanned.{given_into, IsCarriedInto}
 use Rattle.cu_scan.proofs.Told.{IsOneGroup, IsToldAbove, dims, below, beyond, one_row, one_group, differences_set, sum_told, within_axis, within_differences}
 use Rattle.cu_op.specs.Along.{CarriesFor, chunk_on, group_walk, carried_walks, carried_array, carried_room}
 use Rattle.cu_op.specs.Arrays.{grid_at, type_at, grid_counts, chunk_room}
@@ -162,7 +162,7 @@ module _ (arrays : List ArrayInfo) (axis s source out end : ℕ) (lo hi : List �
   sizes = dims axis s end lo hi w
 
   pub given_room : (above : Option ℕ) (buf : List ℕ) → IsTyped arrays out above → length buf ≡ beside_room arrays above axis s lo hi
-      → IsGiven (type_at arrays out) (product (set sizes axis 1)) buf
+      → IsCarriedInto (type_at arrays out) (product (set sizes axis 1)) buf
   given_room None buf typed e some = absurd (omega arith)
   given_room (Some a) buf typed e some =
       let count : product (set sizes axis 1) * size_of (type_at arrays out) ≡ length buf =

@@ -5,7 +5,7 @@ use Rattle.std.proofs.lemmas.List.{length-drop, take-append-drop}
 use Rattle.cu_num.specs.Dtype.{size_of, IsInteger}
 use Rattle.cu_shape.specs.Index.{product, differences}
 use Rattle.cu_grid.specs.Grid.{IsGrid}
-use Rattle.cu_scan.specs.Scanned.{IsGiven}
+use Rattle.cu_scan.specs.Scanned.{IsCarriedInto}
 use Rattle.cu_scan.proofs.Told.{IsOneGroup}
 use Rattle.cu_op.specs.Along.{group_walk, carried_walks}
 use Rattle.cu_op.specs.Arrays.{grid_at, type_at, grid_counts}
@@ -98,7 +98,7 @@ module _ (t : TaskView) (axis source out : ℕ) (k : SumTask t axis source out) 
       let d = ap length p.rest ∙ length-drop n inputs in
       omega (arith, e, at, d)
 
-  pub given : (n : ℕ) (inputs front behind : List ℕ) → IsSplit n inputs front behind → IsGiven (type_at arrays out) (product (set own_sizes axis 1)) behind
+  pub given : (n : ℕ) (inputs front behind : List ℕ) → IsSplit n inputs front behind → IsCarriedInto (type_at arrays out) (product (set own_sizes axis 1)) behind
   given n inputs front behind p = given_room arrays axis k.s source out k.end k.lo k.hi k.one k.above behind k.typed (behind_long n inputs front behind p)
 
   pub elements : (output : List ℕ) → All (λ b. b < 256) output → AreOfItsType t output

@@ -19,7 +19,7 @@ use Rattle.cu_origin.specs.declared.pull.Pull.{Pull as View}
 use Rattle.cu_op.proofs.Operations.{Fit}
 use Rattle.cu_op.proofs.TaskCells.{fit_of}
 use Rattle.cu_task.specs.OfTask.{scratch_bytes, kept_bytes, found_bytes, made_bytes}
-use Rattle.cu_task.specs.Task.{IsPlaceSearch, IsComputing, compared_by, room_beside, IsThere}
+use Rattle.cu_task.specs.Task.{IsPlaceSearch, IsComputing, compared_by, room_beside, IsSomeArray}
 use Rattle.cu_task.proofs.TaskRegions.{lent_to}
 use Rattle.cu_task.proofs.TaskRooms.{rooms_fit}
 
@@ -54,7 +54,7 @@ pub searched_room : (arrays : List ArrayInfo) (op : Op) (task : ℕ) → IsPlace
     → room_beside arrays op task (compared_array op) ≡ product (differences (task_hi arrays op task) (task_lo arrays op task)) * size_of (type_at arrays (compared_by op))
 searched_room arrays op task is = room_by (compared_array op) is
   where
-    room_by : (compared : Option ℕ) → IsThere compared → room_beside arrays op task compared ≡ product (differences (task_hi arrays op task) (task_lo arrays op task)) * size_of (type_at arrays (unwrap_or compared 0))
+    room_by : (compared : Option ℕ) → IsSomeArray compared → room_beside arrays op task compared ≡ product (differences (task_hi arrays op task) (task_lo arrays op task)) * size_of (type_at arrays (unwrap_or compared 0))
     room_by None is = absurd is
     room_by (Some array) is = refl
 

@@ -26,7 +26,7 @@ use Rattle.cu_plan.specs.Text.{begun_text}
 use Rattle.cu_work.specs.declared.way.WayFault.{WayFault}
 use Rattle.cu_work.specs.declared.way.WayFault.TheVariants as way
 use Rattle.cu_top.specs.Ask.{IsAskEnd, answer_of}
-use Rattle.cu_top.specs.Begin.{BeginWithin, Begun, IsBegun, IsTextsAnswer, IsTextUnput, TextsEnded, WasBegun, begin_limits, text_answer}
+use Rattle.cu_top.specs.Begin.{BeginWithin, BegunRun, IsBegun, IsTextsAnswer, IsTextUnput, TextsEnded, WasBegun, begin_limits, text_answer}
 use Rattle.cu_top.specs.Calls.{RunWithin, run_limits}
 use Rattle.cu_top.specs.Driven.{IsMissingText, MissingPut}
 use Rattle.cu_top.specs.Planned.{IsPlanRefused, plan_calls}

@@ -19,7 +19,7 @@ use Rattle.cu_top.specs.Begin.{WasBegun}
 use Rattle.cu_top.specs.Drop.{IsDropping, Dropped}
 use Rattle.cu_top.specs.Held.{IsNotReopened}
 use Rattle.cu_top.specs.Laws.{IsOfPlan}
-use Rattle.cu_top.specs.Parts.{IsParted, WasParted}
+use Rattle.cu_top.specs.Parts.{IsPartRun, WasParted}
 use Rattle.cu_top.specs.Resume.{IsResumed, WasResumed}
 use Rattle.cu_top.specs.Run.{RunCase, job_run, IsSpared, IsStarted, WasRefused, Ran}
 
@@ -107,7 +107,7 @@ module _ (c : RunCase) where
   begin_is_command status why = refused_command status why
 
   module _ (q : Part) where
-    parted_command : (job : Job) → IsParted c job q → IsOfPlan c
+    parted_command : (job : Job) → IsPartRun c job q → IsOfPlan c
     parted_command job parted =
         let step = parted.step in
         inr (

@@ -11,7 +11,7 @@ use Rattle.cu_op.specs.Schedule.{op_of, key_of}
 use Rattle.cu_op.specs.Sound.{Sound}
 use Rattle.cu_run_law.specs.Left.{RunChange}
 use Rattle.cu_run_law.proofs.Keeping.{change_alone, left_alone}
-use Rattle.cu_work.specs.Asked.{Search}
+use Rattle.cu_work.specs.Asked.{Asking}
 use Rattle.cu_work.specs.Ended.{WasChosen, WereChosen}
 use Rattle.cu_work.specs.Part.{IsInPart, IsPartOf, LacksChunk, LacksInput}
 use Rattle.cu_work.specs.Tried.{IsBadOf, task_id}
@@ -37,7 +37,7 @@ use Rattle.cu_top.specs.Answered.{NothingFailed}
 use Rattle.cu_top.specs.Complete.{HasPartReady, IsLeftRecorded, IsPartCause, IsPartReady}
 use Rattle.cu_top.specs.Complete.{IsResumable, IsServed}
 use Rattle.cu_top.specs.Held.{IsNotReopened}
-use Rattle.cu_top.specs.Parts.{IsParted, PartTells, WasParted, search_in}
+use Rattle.cu_top.specs.Parts.{IsPartRun, PartTells, WasParted, asking_in}
 use Rattle.cu_top.specs.Prepare.{is_own_input}
 use Rattle.cu_top.specs.Record.{record_text}
 use Rattle.cu_top.specs.Run.{Scene, RunCase, case, plan_in, job_run, env_of}
@@ -53,7 +53,7 @@ own_or_not b holds fails = cc
 
 -- ---- a task that was chosen
 
-module _ (s : Search) (now : Shown) (w : WereChosen s now) (task : ℕ)
+module _ (s : Asking) (now : Shown) (w : WereChosen s now) (task : ℕ)
     (was : WasChosen s w.chosen task) where
   chosen_inside : IsInPart s.part task
   chosen_inside =
@@ -113,8 +113,8 @@ module _ (c : RunCase) (q : Part) (entry : Contents) (told : c.old.depot.held �
     (
       same,
       parted.part,
-      chosen_inside (search_in c job q) c.new.depot w task was,
-      chosen_lacked (search_in c job q) c.new.depot w task was,
+      chosen_inside (asking_in c job q) c.new.depot w task was,
+      chosen_lacked (asking_in c job q) c.new.depot w task was,
     ),
   )
   part_cause (BadChunk key got want) (job, parted, why) =
@@ -134,7 +134,7 @@ module _ (c : RunCase) (q : Part) (entry : Contents) (told : c.old.depot.held �
         rose
 
     -- a task that lacks a chunk has each made chunk that it reads
-    never_early : (job : Job) → IsParted c job q → (task : ℕ) → IsInPart q task
+    never_early : (job : Job) → IsPartRun c job q → (task : ℕ) → IsInPart q task
         → LacksChunk (plan_in c job) q.op task c.old.depot
         → LacksInput (plan_in c job) q.op task c.old.depot → ⊥
     never_early job parted task within lacks wants =
@@ -146,7 +146,7 @@ module _ (c : RunCase) (q : Part) (entry : Contents) (told : c.old.depot.held �
               none_or_some (entry key) bytes none is
         ]
 
-    run_step : (job : Job) → IsParted c job q
+    run_step : (job : Job) → IsPartRun c job q
         → Stepped (RunChange (job_run c job) c.old.depot) c.old.depot c.new.depot
     run_step job parted =
         let sound = parted.reopened.sound in
@@ -156,7 +156,7 @@ module _ (c : RunCase) (q : Part) (entry : Contents) (told : c.old.depot.held �
         (steps_wider runs (omega arith) (omega arith) parted.step.step))
 
     -- a chunk that a task of the part reads isn't bad
-    never_spoilt : (job : Job) → IsParted c job q → (key : List ℕ) (got want task : ℕ)
+    never_spoilt : (job : Job) → IsPartRun c job q → (key : List ℕ) (got want task : ℕ)
         → IsInPart q task
         → IsBadOf (plan_in c job) (task_id q.op task) (c.old.depot, c.new.depot) key got want → ⊥
     never_spoilt job parted key got want task within (bad, input) =
@@ -189,7 +189,7 @@ module _ (c : RunCase) (q : Part) (entry : Contents) (told : c.old.depot.held �
         no_tries (omega (arith, rose, earlier))
     part_served (BadChunk key got want) (job, parted, (w, task, was, bad)) =
         never_spoilt job parted key got want task
-        (chosen_inside (search_in c job q) c.new.depot w task was) bad
+        (chosen_inside (asking_in c job q) c.new.depot w task was) bad
     part_served (DepotFailed key) (inl why) = no_tries why.0
     part_served (DepotFailed key) (inr (spared, (job, parted, why))) = no_tries why.0
     part_served status why = absurd (turned status why)

@@ -12,8 +12,8 @@ use Rattle.cu_op.specs.Elements.{Elements}
 use Rattle.cu_run_law.specs.Left.{IsLeft, RunChange}
 use Rattle.cu_run_law.specs.Pieces.{Text, HoldsPiece, chunks_alone}
 use Rattle.cu_run_law.proofs.Keeping.{begun_since, change_alone, left_kept, piece_stays}
-use Rattle.cu_work.specs.Asked.{search_of, IsSoughtInput, IsUnstarted, own_chunks}
-use Rattle.cu_work.specs.Ended.{HasCalled, IsPartDone, IsPartEnd, IsPartFault, WereChosen, count_of}
+use Rattle.cu_work.specs.Asked.{asking_of, IsSoughtInput, IsUnstarted, own_chunks}
+use Rattle.cu_work.specs.Ended.{HasCalled, IsPartDone, IsPartEnd, IsPartFault, WereChosen, count_of_part}
 use Rattle.cu_work.specs.Part.{IsPartOf, LacksChunk, PartPut}
 use Rattle.cu_work.specs.Tried.{chosen_calls}
 use Rattle.cu_work.specs.declared.part.Part.{Part}
@@ -29,7 +29,7 @@ use Rattle.cu_command.specs.declared.status.Status.{Status}
 use Rattle.cu_command.specs.declared.status.Status.TheVariants.{Done, TaskFailed, WriteFault, BadChunk, OtherPlan, NoPlan, DepotFailed, NoTasks, NotReady, NoMemory}
 use Rattle.cu_top.specs.Calls.{ReopenWithin}
 use Rattle.cu_top.specs.Held.{IsNotReopened, IsReopened, WhereEntryTold}
-use Rattle.cu_top.specs.Parts.{IsParted, PartCalled, PartWithin, WasParted, WithinRecord, part_fault_answer, part_line, search_in, tasks_at}
+use Rattle.cu_top.specs.Parts.{IsPartRun, PartCalled, PartWithin, WasParted, WithinRecord, part_fault_answer, part_line, asking_in, tasks_at}
 use Rattle.cu_top.specs.Planned.{plan_calls}
 use Rattle.cu_top.specs.Run.{RunCase, plan_in, job_run, env_of, IsSpared, WroteTo}
 use Rattle.cu_top.proofs.DriveLemmas.{PlanLaws, kept}
@@ -44,7 +44,7 @@ module _ (p : PlanView) (q : Part) (tries : ℕ) (old mid : Shown) (spared : Ste
   left_mid : (env : Elements) → IsLeft (chunks_alone p) env old → IsLeft (chunks_alone p) env mid
   left_mid env left = left_kept (chunks_alone p) env old left 0 spared.calls mid (steps_none spared.step)
 
-  sought_old : (key : List ℕ) → IsSoughtInput (search_of p q tries mid) key → IsSoughtInput (search_of p q tries old) key
+  sought_old : (key : List ℕ) → IsSoughtInput (asking_of p q tries mid) key → IsSoughtInput (asking_of p q tries old) key
   sought_old key (task, within, lacks, made) = (task, within, lacks_old q.op task lacks, made)
 
   put_old : Within (PartPut p q mid) (PartPut p q old)
@@ -58,7 +58,7 @@ module _ (p : PlanView) (q : Part) (tries : ℕ) (old mid : Shown) (spared : Ste
     step_old : Steps NoChange 0 last_count mid new → Steps NoChange 0 last_count old new
     step_old step = steps_ever NoChange 0 (spared.calls + last_count) old new (steps_then spared.step step)
 
-    unstarted_old : (f : PartFault) → IsUnstarted (search_of p q tries mid) new f → IsUnstarted (search_of p q tries old) new f
+    unstarted_old : (f : PartFault) → IsUnstarted (asking_of p q tries mid) new f → IsUnstarted (asking_of p q tries old) new f
     unstarted_old (fault.Failed key) (rose, inl own) = (rose_old tries rose, inl own)
     unstarted_old (fault.Failed key) (rose, inr sought) = (rose_old tries rose, inr (sought_old key sought))
     unstarted_old (fault.NotReady task) (within, lacks, wants, ready) =
@@ -67,9 +67,9 @@ module _ (p : PlanView) (q : Part) (tries : ℕ) (old mid : Shown) (spared : Ste
     unstarted_old (fault.Broken task) why = absurd why
     unstarted_old (fault.BadChunk key got want) why = absurd why
 
-    abbrev chosen_old : WereChosen (search_of p q tries mid) new → WereChosen (search_of p q tries old) new
+    abbrev chosen_old : WereChosen (asking_of p q tries mid) new → WereChosen (asking_of p q tries old) new
     chosen_old w =
-        let own = own_chunks p q (count_of q) in
+        let own = own_chunks p q (count_of_part q) in
         let first : Steps NoChange own (spared.calls + last_count) old w.asked = steps_wider (λ key value change. change) (omega arith) (omega arith) (steps_then spared.step w.first) in
         record {
           asked = w.asked;
@@ -80,7 +80,7 @@ module _ (p : PlanView) (q : Part) (tries : ℕ) (old mid : Shown) (spared : Ste
           later = w.later;
         }
 
-    fault_old : (f : PartFault) → IsPartFault (search_of p q tries mid) new f → IsPartFault (search_of p q tries old) new f
+    fault_old : (f : PartFault) → IsPartFault (asking_of p q tries mid) new f → IsPartFault (asking_of p q tries old) new f
     fault_old (fault.Failed key) (why, step) = (unstarted_old (fault.Failed key) why, step_old step)
     fault_old (fault.NotReady task) (why, step) = (unstarted_old (fault.NotReady task) why, step_old step)
     fault_old (fault.Broken task) (w, was, rose) = (chosen_old w, was, rose)
@@ -88,14 +88,14 @@ module _ (p : PlanView) (q : Part) (tries : ℕ) (old mid : Shown) (spared : Ste
     fault_old fault.NoMemory (inl step) = inl (step_old step)
     fault_old fault.NoMemory (inr lacks) = inr lacks
 
-    done_old : (n : PartCounts) → IsPartDone (search_of p q tries mid) new n → IsPartDone (search_of p q tries old) new n
+    done_old : (n : PartCounts) → IsPartDone (asking_of p q tries mid) new n → IsPartDone (asking_of p q tries old) new n
     done_old n d = record {
       choice = chosen_old d.choice;
       starts = d.starts;
       held = λ env task left within. d.held env task (left_mid env left) within;
     }
 
-    end_old : (result : Result PartCounts PartFault) → IsPartEnd (search_of p q tries mid) new result → IsPartEnd (search_of p q tries old) new result
+    end_old : (result : Result PartCounts PartFault) → IsPartEnd (asking_of p q tries mid) new result → IsPartEnd (asking_of p q tries old) new result
     end_old (Ok n) done = done_old n done
     end_old (Err f) why = fault_old f why
 
@@ -104,13 +104,13 @@ module _ (p : PlanView) (q : Part) (tries : ℕ) (old mid : Shown) (spared : Ste
 -- the clauses of running a part of a plan
 pub record PartTold (p : PlanView) (q : Part) (tries : ℕ) (old new : Shown) (result : Result PartCounts PartFault) : Type 0 where
   pub part : IsPartOf p q
-  pub end : IsPartEnd (search_of p q tries old) new result
+  pub end : IsPartEnd (asking_of p q tries old) new result
   pub step : Steps (PartPut p q old) 0 last_count old new
-  pub calls : HasCalled (search_of p q tries old) new
+  pub calls : HasCalled (asking_of p q tries old) new
 
 -- the same of the plan and the numbers that these are
 pub part_told : (p r : PlanView) (own q : Part) (tries : ℕ) (old new : Shown) (result : Result PartCounts PartFault) → p ≡ r → own ≡ q → IsPartOf p own
-    → IsPartEnd (search_of p own tries old) new result → Steps (PartPut p own old) 0 last_count old new → HasCalled (search_of p own tries old) new → PartTold r q tries old new result
+    → IsPartEnd (asking_of p own tries old) new result → Steps (PartPut p own old) 0 last_count old new → HasCalled (asking_of p own tries old) new → PartTold r q tries old new result
 part_told p r own q tries old new result same is part ended step calls =
     let told : PartTold p own tries old new result = record { part = part; end = ended; step = step; calls = calls } in
     subst (λ (x : PlanView). PartTold x q tries old new result) same (subst (λ (y : Part). PartTold p y tries old new result) is told)
@@ -133,7 +133,7 @@ module _ (c : RunCase) (job : Job) (laws : PlanLaws c job) (mid : Shown) (spared
   left_now : WhereEntryTold c job (λ env. IsLeft (job_run c job) env mid)
   left_now entry there = kept c job laws mid spared (env_of c job entry) (opens_at entry there)
 
-  is_parted : IsParted c job q
+  is_parted : IsPartRun c job q
   is_parted = record {
     reopened = back;
     part = told.part;
@@ -150,17 +150,17 @@ module _ (c : RunCase) (job : Job) (laws : PlanLaws c job) (mid : Shown) (spared
         (text_held (job_run c job) env mid left (omega arith) known);
   }
 
-  ends : IsPartEnd (search_in c job q) c.new.depot result
+  ends : IsPartEnd (asking_in c job q) c.new.depot result
   ends = end_old (plan_in c job) q (c.options.retries + 1) c.old.depot mid spared c.new.depot result told.end
 
   pub parted_done : (n : PartCounts) → result ≡ Ok n → WroteTo c (part_line (plan_in c job) q n) (length (part_line (plan_in c job) q n)) → WasParted c q Done
-  parted_done n is wrote = (job, is_parted, (n, subst (IsPartEnd (search_in c job q) c.new.depot) is ends, wrote))
+  parted_done n is wrote = (job, is_parted, (n, subst (IsPartEnd (asking_in c job q) c.new.depot) is ends, wrote))
 
   pub parted_unreported : (n : PartCounts) → result ≡ Ok n → Rose 1 c.old.sink.faults c.new.sink.faults
       → ((k : ℕ) × (k ≤ length (part_line (plan_in c job) q n)) × WroteTo c (part_line (plan_in c job) q n) k) → WasParted c q WriteFault
-  parted_unreported n is rose wrote = (rose, (job, is_parted, (n, subst (IsPartEnd (search_in c job q) c.new.depot) is ends, wrote)))
+  parted_unreported n is rose wrote = (rose, (job, is_parted, (n, subst (IsPartEnd (asking_in c job q) c.new.depot) is ends, wrote)))
 
-  by_fault : (f : PartFault) → IsPartFault (search_in c job q) c.new.depot f → WasParted c q (part_fault_answer q.op f)
+  by_fault : (f : PartFault) → IsPartFault (asking_in c job q) c.new.depot f → WasParted c q (part_fault_answer q.op f)
   by_fault (fault.Failed key) (why, step) = inr (stepped step, (job, is_parted, why))
   by_fault (fault.NotReady task) (why, step) = (stepped step, (job, is_parted, (refl, why)))
   by_fault (fault.Broken task) why = (job, is_parted, (refl, why))
@@ -169,7 +169,7 @@ module _ (c : RunCase) (job : Job) (laws : PlanLaws c job) (mid : Shown) (spared
   by_fault fault.NoMemory (inr lacks) = inr (job, is_parted, lacks)
 
   pub parted_ended : (f : PartFault) → result ≡ Err f → WasParted c q (part_fault_answer q.op f)
-  parted_ended f is = by_fault f (subst (IsPartEnd (search_in c job q) c.new.depot) is ends)
+  parted_ended f is = by_fault f (subst (IsPartEnd (asking_in c job q) c.new.depot) is ends)
 
   -- ---- calls
 
@@ -178,7 +178,7 @@ module _ (c : RunCase) (job : Job) (laws : PlanLaws c job) (mid : Shown) (spared
     inputs = told.calls.inputs;
     chosen = told.calls.chosen;
     differ = told.calls.differ;
-    sought = All-weaker (IsSoughtInput (search_of (plan_in c job) q (c.options.retries + 1) mid)) (IsSoughtInput (search_in c job q))
+    sought = All-weaker (IsSoughtInput (asking_of (plan_in c job) q (c.options.retries + 1) mid)) (IsSoughtInput (asking_in c job q))
         (sought_old (plan_in c job) q (c.options.retries + 1) c.old.depot mid spared) told.calls.inputs told.calls.sought;
     lacking = λ i named. lacks_old (plan_in c job) q (c.options.retries + 1) c.old.depot mid spared q.op (q.from + i) (told.calls.lacking i named);
     calls = let more = told.calls.calls in omega (arith, first, more);

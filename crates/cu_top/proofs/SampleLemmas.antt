@@ -41,7 +41,7 @@ use Rattle.cu_run_law.specs.Pieces.{IsInputChunk}
 use Rattle.cu_work.specs.Order.{IsFree, plan_keys}
 use Rattle.cu_top.specs.Complete.{AreWhole, IsAtRest, IsBeginnable, IsPlannable, IsServable, IsWayFree}
 use Rattle.cu_top.specs.Prepare.{asked_keys, is_own_input, job_plan}
-use Rattle.cu_top.specs.Sample.{sample_options, sample_with, shown_with, sample_input, sample_layout, sample_metadata, sample_chunk, sample_held, sample_shown, sample_late, sample_text, sample_run, sample_begin, sample_plan}
+use Rattle.cu_top.specs.Sample.{sample_options, sample_with, shown_of_sample, sample_input, sample_layout, sample_metadata, sample_chunk, sample_held, sample_shown, sample_late, sample_text, sample_run, sample_begin, sample_plan}
 use Rattle.cu_words.specs.Words.{line_given}
 use Rattle.cu_top.specs.Words.{command_of, begin, plan, run}
 
@@ -96,21 +96,21 @@ module _ (recorded : Option (List ℕ)) where
     },
   )
 
-  calm_written : IsCalmAt (shown_with recorded) (codes "x/zarr.json")
+  calm_written : IsCalmAt (shown_of_sample recorded) (codes "x/zarr.json")
   calm_written bytes (inl (key, same)) = absurd (apart (codes "x/zarr.json") (codes "x/c/0") refl key)
   calm_written bytes (inr none) = absurd none
 
-  calm_zarray : IsCalmAt (shown_with recorded) (codes "x/.zarray")
+  calm_zarray : IsCalmAt (shown_of_sample recorded) (codes "x/.zarray")
   calm_zarray bytes (inl (key, same)) = absurd (apart (codes "x/.zarray") (codes "x/c/0") refl key)
   calm_zarray bytes (inr none) = absurd none
 
   held_all : All (λ (i : InputInfo). StoresLayout (Some (sample_with recorded)) i.name i.layout) inputs
   held_all = All-cons (λ (i : InputInfo). StoresLayout (Some (sample_with recorded)) i.name i.layout) sample_input [] holds (All-nil (λ (i : InputInfo). StoresLayout (Some (sample_with recorded)) i.name i.layout))
 
-  calm_all : All (λ (i : InputInfo). AreCalmAt (shown_with recorded) i.name) inputs
-  calm_all = All-cons (λ (i : InputInfo). AreCalmAt (shown_with recorded) i.name) sample_input [] (calm_written, calm_zarray) (All-nil (λ (i : InputInfo). AreCalmAt (shown_with recorded) i.name))
+  calm_all : All (λ (i : InputInfo). AreCalmAt (shown_of_sample recorded) i.name) inputs
+  calm_all = All-cons (λ (i : InputInfo). AreCalmAt (shown_of_sample recorded) i.name) sample_input [] (calm_written, calm_zarray) (All-nil (λ (i : InputInfo). AreCalmAt (shown_of_sample recorded) i.name))
 
-  pub typable : IsTypable (shown_with recorded) sample_text
+  pub typable : IsTypable (shown_of_sample recorded) sample_text
   typable = record {
     contents = sample_with recorded;
     told = refl;
@@ -232,12 +232,12 @@ same_expression e f one other = cc
 same_types : (a b : List NodeInfo) → typed inputs copied ≡ Ok a → typed inputs copied ≡ Ok b → a ≡ b
 same_types a b one other = cc
 
-module _ (recorded : Option (List ℕ)) (job : Job) (is : IsJob (shown_with recorded) sample_text job) where
+module _ (recorded : Option (List ℕ)) (job : Job) (is : IsJob (shown_of_sample recorded) sample_text job) where
   pub expr_is : job.expr ≡ copied
   expr_is = same_expression job.expr copied is.said said
 
   pub inputs_are : job.inputs.items ≡ inputs
-  inputs_are = sym (inputs_read (shown_with recorded) (sample_with recorded) inputs job.inputs.items refl (sym (is.names ∙ ap names_in expr_is)) (held_all recorded) (calm_all recorded) is.inputs)
+  inputs_are = sym (inputs_read (shown_of_sample recorded) (sample_with recorded) inputs job.inputs.items refl (sym (is.names ∙ ap names_in expr_is)) (held_all recorded) (calm_all recorded) is.inputs)
 
   pub types_are : job.types ≡ infos
   types_are =

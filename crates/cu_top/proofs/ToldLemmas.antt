@@ -9,7 +9,7 @@ use Rattle.cu_command.specs.declared.status.Status.TheVariants.{BadWords, NoMemo
 use Rattle.cu_lower.specs.declared.options.Options.{Options}
 use Rattle.cu_top.proofs.CallLemmas.{told_run, told_resume, told_drop, told_begin, told_part}
 use Rattle.cu_top.proofs.PlannedLemmas.{told_plan}
-use Rattle.cu_top.specs.Told.{BeginTold, PartTold, AreTold, CallTold, DropTold, IsTold, PlanTold, ResumeTold, RunTold}
+use Rattle.cu_top.specs.Told.{BeginTold, PartTold, AreTold, CallTold, DropTold, IsCommandTold, PlanTold, ResumeTold, RunTold}
 use Rattle.cu_top.specs.Call.{CameToRun, DidNothing, IsWordsRefused}
 use Rattle.cu_top.specs.Calls.{DropWithin, ResumeWithin, RunWithin}
 use Rattle.cu_work.specs.declared.part.Part.{Part}
@@ -89,7 +89,7 @@ module _ (options : Options) (old new : Scene) (text given : List ℕ) (status :
 -- ---- the words are read
 
 -- they give a command, and it is answered
-pub by_command : (lack : Bool) (asked : Result Command ℕ) (old new : Scene) (status : Status) (command : Command) → asked ≡ Ok command → IsTold lack command old new status
+pub by_command : (lack : Bool) (asked : Result Command ℕ) (old new : Scene) (status : Status) (command : Command) → asked ≡ Ok command → IsCommandTold lack command old new status
     → CallTold lack asked old new status
 by_command lack asked old new status command is answered = record {
   is_so = subst (λ (a : Result Command ℕ). AreTold lack a old new status) (sym is) answered;
@@ -130,7 +130,7 @@ module _ (lack : Bool) (asked : Result Command ℕ) (same : Scene) where
 -- ---- what each command answers
 
 module _ {lack : Bool} {asked : Result Command ℕ} {old new : Scene} {status : Status} (answered : CallTold lack asked old new status) where
-  pub answer_to : (command : Command) → asked ≡ Ok command → IsTold lack command old new status
+  pub answer_to : (command : Command) → asked ≡ Ok command → IsCommandTold lack command old new status
   answer_to command is = subst (λ (a : Result Command ℕ). AreTold lack a old new status) is answered.is_so
 
   pub words_refused : (code : ℕ) → asked ≡ Err code → IsWordsRefused code status × DidNothing old new

@@ -30,8 +30,8 @@ pub record IsBegun (c : RunCase) (job : Job) : Type 0 where
   pub texts : Stepped (TextPut c job) c.old.depot c.new.depot
 
 -- such a run, with a fact of its job
-abbrev pub Begun : RunCase → (Job → Type 0) → Type 0
-Begun c fact = (job : Job) × IsBegun c job × fact job
+abbrev pub BegunRun : RunCase → (Job → Type 0) → Type 0
+BegunRun c fact = (job : Job) × IsBegun c job × fact job
 
 -- The key is that of a text. Where contents were told and the premise holds, the calls for the record
 -- failed, and nothing but it was put; or those for the output's metadata did, and the record is held.
@@ -46,12 +46,12 @@ IsTextUnput c job key =
 
 -- 0: both texts are held, and the whole text of the plan was written
 abbrev pub IsBegunDone : RunCase → Type 0
-IsBegunDone c = Begun c (λ job. HoldsBoth c job
+IsBegunDone c = BegunRun c (λ job. HoldsBoth c job
     × WroteTo c (begun_text (plan_in c job)) (length (begun_text (plan_in c job))))
 
 -- 12: both texts are held, the sink failed, and a front of the text of the plan was written
 abbrev pub IsBegunUnprinted : RunCase → Type 0
-IsBegunUnprinted c = Rose 1 c.old.sink.faults c.new.sink.faults × Begun c (λ job. HoldsBoth c job
+IsBegunUnprinted c = Rose 1 c.old.sink.faults c.new.sink.faults × BegunRun c (λ job. HoldsBoth c job
     × ((n : ℕ) × (n ≤ length (begun_text (plan_in c job))) × WroteTo c (begun_text (plan_in c job)) n))
 
 -- 16: all calls for this key failed. Nothing was stored, and the key is that of an input's metadata in
@@ -60,11 +60,11 @@ abbrev pub IsBeginFailed : RunCase → List ℕ → Type 0
 IsBeginFailed c key = Rose (c.options.retries + 1) c.old.depot.faults c.new.depot.faults
     × (HasNoJob c (fault.DepotFailed key)
     ⊎ (IsSpared c × OfPlanned c (λ job. IsFirstOf c.old.depot (asked_keys c.options job) key × IsOwnFirst job.expr key))
-    ⊎ Begun c (λ job. IsTextUnput c job key))
+    ⊎ BegunRun c (λ job. IsTextUnput c job key))
 
 -- 70: nothing was stored; or nothing but texts was put
 abbrev pub IsBeginShort : RunCase → Type 0
-IsBeginShort c = IsSpared c ⊎ Begun c (λ job. Unit {0})
+IsBeginShort c = IsSpared c ⊎ BegunRun c (λ job. Unit {0})
 
 -- what a run that is begun answers, from the text on
 abbrev pub WasBegun : RunCase → Status → Type 0

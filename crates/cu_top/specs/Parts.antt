@@ -8,8 +8,8 @@ use Rattle.cu_op.specs.PlanView.{PlanView, operation_at}
 use Rattle.cu_op.specs.Schedule.{op_of}
 use Rattle.cu_run_law.specs.Left.{IsLeft}
 use Rattle.cu_run_law.specs.Pieces.{Text, HoldsPiece}
-use Rattle.cu_work.specs.Asked.{Search, search_of, AllDiffer, IsChosenAt, IsSoughtInput, IsUnstarted, own_chunks}
-use Rattle.cu_work.specs.Ended.{IsPartDone, IsPartFault, count_of}
+use Rattle.cu_work.specs.Asked.{Asking, asking_of, AllDiffer, IsChosenAt, IsSoughtInput, IsUnstarted, own_chunks}
+use Rattle.cu_work.specs.Ended.{IsPartDone, IsPartFault, count_of_part}
 use Rattle.cu_work.specs.Part.{IsPartOf, LacksChunk, PartPut}
 use Rattle.cu_work.specs.Tried.{chosen_calls}
 use Rattle.cu_work.specs.declared.part.Part.{Part}
@@ -33,7 +33,7 @@ tasks_at p op = if nat_lt op (length p.ops) then tasks_of p.arrays (op_of p op) 
 -- `ok ops=1 tasks=N starts=S failed=F peak=P`, with a line feed: the tasks of the part, and the bytes that
 -- a task of its operation needs
 unfoldable pub part_line : PlanView → Part → PartCounts → List ℕ
-part_line p q n = codes "ok ops=1 tasks=" ++ decimal (count_of q) ++ codes " starts=" ++ decimal n.starts
+part_line p q n = codes "ok ops=1 tasks=" ++ decimal (count_of_part q) ++ codes " starts=" ++ decimal n.starts
     ++ codes " failed=" ++ decimal n.failures ++ codes " peak=" ++ decimal (operation_at p.ops q.op).projected ++ 10 ∷ []
 
 -- ---- a part of a plan that was found again
@@ -41,7 +41,7 @@ part_line p q n = codes "ok ops=1 tasks=" ++ decimal (count_of q) ++ codes " sta
 -- The plan was found again, and has these tasks. Nothing was put but values of chunks that they write
 -- and that lacked one: so no other key changed, nor the metadata. Where the contents were told the store
 -- was left so by the plan when the command began, and is now, and the record is held.
-pub record IsParted (c : RunCase) (job : Job) (q : Part) : Type 0 where
+pub record IsPartRun (c : RunCase) (job : Job) (q : Part) : Type 0 where
   pub reopened : IsReopened c job
   pub part : IsPartOf (plan_in c job) q
   pub opens : WhereEntryTold c job (λ env. IsLeft (job_run c job) env c.old.depot)
@@ -51,16 +51,16 @@ pub record IsParted (c : RunCase) (job : Job) (q : Part) : Type 0 where
 
 -- such a part, with a fact of its job
 abbrev pub Parted : RunCase → Part → (Job → Type 0) → Type 0
-Parted c q fact = (job : Job) × IsParted c job q × fact job
+Parted c q fact = (job : Job) × IsPartRun c job q × fact job
 
 -- what was looked for, from the moment at which the command began
-abbrev pub search_in : RunCase → Job → Part → Search
-search_in c job q = search_of (plan_in c job) q (c.options.retries + 1) c.old.depot
+abbrev pub asking_in : RunCase → Job → Part → Asking
+asking_in c job q = asking_of (plan_in c job) q (c.options.retries + 1) c.old.depot
 
 -- Each task of the part holds its chunks. Those that lacked one were run: as often as they failed, and
 -- once more each.
 abbrev pub RanPart : RunCase → Job → Part → PartCounts → Type 0
-RanPart c job q n = IsPartDone (search_in c job q) c.new.depot n
+RanPart c job q n = IsPartDone (asking_in c job q) c.new.depot n
 
 -- what is answered where a part of this operation ended so
 abbrev pub part_fault_answer : ℕ → PartFault → Status
@@ -92,25 +92,25 @@ HasNoTasks c q op tasks = IsSpared c × ((job : Job) × IsReopened c job × (op 
 -- first of the part of which that is so, and nothing was stored
 abbrev pub IsTooEarly : RunCase → Part → ℕ → ℕ → Type 0
 IsTooEarly c q op task = IsSpared c × Parted c q (λ job. (op ≡ q.op)
-    × IsUnstarted (search_in c job q) c.new.depot (fault.NotReady task))
+    × IsUnstarted (asking_in c job q) c.new.depot (fault.NotReady task))
 
 -- 10: all tries of this task failed, which was chosen, since it lacked a chunk when the command began
 -- and had the made inputs that it reads; the faults are counted from the choice on
 abbrev pub IsPartedBroken : RunCase → Part → ℕ → ℕ → Type 0
 IsPartedBroken c q op task = Parted c q (λ job. (op ≡ q.op)
-    × IsPartFault (search_in c job q) c.new.depot (fault.Broken task))
+    × IsPartFault (asking_in c job q) c.new.depot (fault.Broken task))
 
 -- 13: this chunk of an input, which a task of the part reads that was chosen so, holds `got` bytes and
 -- not the `want` bytes of a chunk
 abbrev pub IsPartedBad : RunCase → Part → List ℕ → ℕ → ℕ → Type 0
 IsPartedBad c q key got want = Parted c q (λ job.
-    IsPartFault (search_in c job q) c.new.depot (fault.BadChunk key got want))
+    IsPartFault (asking_in c job q) c.new.depot (fault.BadChunk key got want))
 
 -- 16: all calls for this key failed, and nothing was stored: the metadata's of an input in its turn, the
 -- record's, or that of a chunk that a task of the part writes or reads
 abbrev pub IsPartFailed : RunCase → Part → List ℕ → Type 0
 IsPartFailed c q key = IsUnasked c key
-    ⊎ (IsSpared c × Parted c q (λ job. IsUnstarted (search_in c job q) c.new.depot (fault.Failed key)))
+    ⊎ (IsSpared c × Parted c q (λ job. IsUnstarted (asking_in c job q) c.new.depot (fault.Failed key)))
 
 -- 70: nothing was stored; or the depot lacks memory
 abbrev pub IsPartShort : RunCase → Part → Type 0
@@ -143,11 +143,11 @@ pub record PartCalled (c : RunCase) (job : Job) (q : Part) : Type 0 where
   pub inputs : List (List ℕ)
   pub chosen : List Bool
   pub differ : AllDiffer inputs
-  pub sought : All (IsSoughtInput (search_in c job q)) inputs
+  pub sought : All (IsSoughtInput (asking_in c job q)) inputs
   pub lacking : (i : ℕ) → IsChosenAt chosen i → LacksChunk (plan_in c job) q.op (q.from + i) c.old.depot
   pub calls : WithinCalls (plan_calls (c.options.retries + 1) c.text + (c.options.retries + 1)
-      * (1 + own_chunks (plan_in c job) q (count_of q) + length inputs
-      + chosen_calls (plan_in c job) q chosen (count_of q))) c.old.depot c.new.depot
+      * (1 + own_chunks (plan_in c job) q (count_of_part q) + length inputs
+      + chosen_calls (plan_in c job) q chosen (count_of_part q))) c.old.depot c.new.depot
 
 -- one key more than planning the text asks for, the record's
 abbrev pub WithinRecord : RunCase → Type 0

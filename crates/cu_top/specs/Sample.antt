@@ -51,8 +51,8 @@ sample_held = sample_with None
 abbrev pub sample_late : List Write
 sample_late = (codes "x/c/0", sample_chunk) ∷ []
 
-abbrev pub shown_with : Option (List ℕ) → Shown
-shown_with recorded = record {
+abbrev pub shown_of_sample : Option (List ℕ) → Shown
+shown_of_sample recorded = record {
   held = Some (sample_with recorded);
   late = sample_late;
   faults = 0;
@@ -61,7 +61,7 @@ shown_with recorded = record {
 }
 
 abbrev pub sample_shown : Shown
-sample_shown = shown_with None
+sample_shown = shown_of_sample None
 
 -- a copy of it in chunks of 3
 unfoldable pub sample_text : List ℕ
@@ -110,7 +110,7 @@ abbrev pub left_held : Contents
 left_held = sample_with (Some sample_record)
 
 abbrev pub left_shown : Shown
-left_shown = shown_with (Some sample_record)
+left_shown = shown_of_sample (Some sample_record)
 
 -- the array of 1 to 7, whose first chunk this is
 abbrev pub sample_array : GivenArray

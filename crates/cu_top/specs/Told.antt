@@ -71,21 +71,21 @@ pub record DemoTold (lack : Bool) (size : ℕ) (options : Options) (old new : Sc
 
 -- ---- any command
 
-abbrev pub IsTold : Bool → Command → Scene → Scene → Status → Type 0
-IsTold lack (run options) old new status = RunTold lack options old new status
-IsTold lack (resume options) old new status = ResumeTold lack options old new status
-IsTold lack (drop options) old new status = DropTold options old new status
-IsTold lack (plan options) old new status = PlanTold options old new status
-IsTold lack (load retries) old new status = LoadTold retries old new status
-IsTold lack (check retries) old new status = CheckTold retries old new status
-IsTold lack (print name retries) old new status = PrintTold name retries old new status
-IsTold lack (demo size options) old new status = DemoTold lack size options old new status
-IsTold lack (begin options) old new status = BeginTold options old new status
-IsTold lack (part options tasks) old new status = PartTold options tasks old new status
+abbrev pub IsCommandTold : Bool → Command → Scene → Scene → Status → Type 0
+IsCommandTold lack (run options) old new status = RunTold lack options old new status
+IsCommandTold lack (resume options) old new status = ResumeTold lack options old new status
+IsCommandTold lack (drop options) old new status = DropTold options old new status
+IsCommandTold lack (plan options) old new status = PlanTold options old new status
+IsCommandTold lack (load retries) old new status = LoadTold retries old new status
+IsCommandTold lack (check retries) old new status = CheckTold retries old new status
+IsCommandTold lack (print name retries) old new status = PrintTold name retries old new status
+IsCommandTold lack (demo size options) old new status = DemoTold lack size options old new status
+IsCommandTold lack (begin options) old new status = BeginTold options old new status
+IsCommandTold lack (part options tasks) old new status = PartTold options tasks old new status
 
 -- words that give a command, or are refused
 abbrev pub AreTold : Bool → Result Command ℕ → Scene → Scene → Status → Type 0
-AreTold lack (Ok command) old new status = IsTold lack command old new status
+AreTold lack (Ok command) old new status = IsCommandTold lack command old new status
 AreTold lack (Err code) old new status = IsWordsRefused code status × DidNothing old new
 
 -- What these words are answered; where the command is missing or unknown no memory is wanted. `lack` says that the depot's yards lack memory.

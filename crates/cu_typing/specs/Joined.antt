@@ -52,12 +52,12 @@ abbrev pub fills : List ℕ → NodeInfo → ℕ → Bool
 fills shape i axis = nat_le (lead_of shape i) axis && slice_index i.dims (axis - lead_of shape i) == slice_index shape axis
 
 -- the chunk size of the result on an axis: that of the first array that fills it
-abbrev pub chunk_on : List ℕ → List NodeInfo → ℕ → ℕ
-chunk_on shape [] axis = 1
-chunk_on shape (i ∷ is) axis = if fills shape i axis then slice_index i.chunk (axis - lead_of shape i) else chunk_on shape is axis
+abbrev pub joined_chunk_on : List ℕ → List NodeInfo → ℕ → ℕ
+joined_chunk_on shape [] axis = 1
+joined_chunk_on shape (i ∷ is) axis = if fills shape i axis then slice_index i.chunk (axis - lead_of shape i) else joined_chunk_on shape is axis
 
 abbrev pub joined_chunk : List ℕ → List NodeInfo → List ℕ
-joined_chunk shape is = map (chunk_on shape is) (range_with_len 0 (length shape))
+joined_chunk shape is = map (joined_chunk_on shape is) (range_with_len 0 (length shape))
 
 -- the aligned chunk of an array: the result's chunk size on each axis that it fills, and its own elsewhere
 abbrev pub aligned_on : List ℕ → List ℕ → NodeInfo → ℕ → ℕ

@@ -1,7 +1,7 @@
 //! Arrays that broadcast together: their shape, their chunk shape, and the chunks to which they are aligned.
 
 ghost use Rattle.std.specs.Prelude.{◌≡◌, ◌≤◌, ◌<◌, IfOk, length, replicate};
-ghost use Rattle.cu_typing.specs.Joined.{arrays_of, joined_rank, joined_with, joined_shape, fills, chunk_on, joined_chunk, aligned_on, aligned_chunk, aligned_within};
+ghost use Rattle.cu_typing.specs.Joined.{arrays_of, joined_rank, joined_with, joined_shape, fills, joined_chunk_on, joined_chunk, aligned_on, aligned_chunk, aligned_within};
 
 use crate::argument::Argument;
 use cu_node::{FaultCode, NodeFault, NodeInfo, fault_at, is_chunk_within, size_at};
@@ -64,7 +64,7 @@ fn fills_axis(shape: &Dims, i: &NodeInfo, axis: u32) -> bool
 
 /// The chunk size of the result on an axis: that of the first array that fills it.
 fn chunk_along(shape: &Dims, args: &[Argument], axis: u32) -> u64
-    ensures { result ≡ chunk_on shape.now (arrays_of args.now) axis }
+    ensures { result ≡ joined_chunk_on shape.now (arrays_of args.now) axis }
 {
     for arg in args {
         if let Argument::Array(i) = arg {

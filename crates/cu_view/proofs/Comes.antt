@@ -15,16 +15,16 @@ use Rattle.cu_view_box.specs.Piece.{read_by_ways, count_along}
 use Rattle.cu_view_box.specs.Way.{read_by}
 use Rattle.cu_view_box.specs.declared.way.Way.{Way}
 use Rattle.cu_view_box.specs.declared.way.Way.TheVariants.{Fixed}
-use Rattle.cu_view.specs.Boxes.{source_of, source_index, index_read}
+use Rattle.cu_view.specs.Boxes.{source_of, index_of_source, index_read}
 use Rattle.cu_view.specs.Pieces.{source_number, pieces_of, number_at, IsShown}
 use Rattle.cu_view.proofs.Asked.{ReadsAxis}
 use Rattle.cu_view.proofs.Concats.{concat_at, concat_has}
 use Rattle.cu_view.proofs.Fitting.{one_source}
 
-from_parts : (p : Provenance) (s n : ℕ) (i : List ℕ) → p ≡ From s i → source_number p ≡ n → p ≡ From n (source_index p)
-from_parts p s n i e m = subst (λ (q : Provenance). source_number q ≡ n → q ≡ From n (source_index q)) (sym e) (λ k. ap (λ (x : ℕ). From x i) k) m
+from_parts : (p : Provenance) (s n : ℕ) (i : List ℕ) → p ≡ From s i → source_number p ≡ n → p ≡ From n (index_of_source p)
+from_parts p s n i e m = subst (λ (q : Provenance). source_number q ≡ n → q ≡ From n (index_of_source q)) (sym e) (λ k. ap (λ (x : ℕ). From x i) k) m
 
-concat_comes : (join : ℕ) (sources : List (List ℕ)) (shape idx : List ℕ) (number : ℕ) → FitsConcat join sources shape → IsInside shape idx → source_number (concat_from join 0 sources idx) ≡ number → concat_from join 0 sources idx ≡ From number (source_index (concat_from join 0 sources idx))
+concat_comes : (join : ℕ) (sources : List (List ℕ)) (shape idx : List ℕ) (number : ℕ) → FitsConcat join sources shape → IsInside shape idx → source_number (concat_from join 0 sources idx) ≡ number → concat_from join 0 sources idx ≡ From number (index_of_source (concat_from join 0 sources idx))
 concat_comes join sources shape idx number f h e =
     let b = inside_at shape idx join h f.below in
     let l = f.below in
@@ -38,7 +38,7 @@ pub comes_from : (pull : Pull) (sources : List (List ℕ)) (shape idx : List ℕ
     → origin_of pull sources shape idx ≡ From (source_of pull number) (index_read pull sources shape idx)
 comes_from Reshape sources shape idx number f h b e s = absurd (omega arith)
 comes_from (Concat axis) sources shape idx number f h b e s = concat_comes axis sources shape idx number f h e
-comes_from (Stack axis) sources shape idx number f h b e s = ap (λ (k : ℕ). From k (source_index (origin_of (Stack axis) sources shape idx))) e
+comes_from (Stack axis) sources shape idx number f h b e s = ap (λ (k : ℕ). From k (index_of_source (origin_of (Stack axis) sources shape idx))) e
 comes_from (Triangle lower k) sources shape idx number f h b e s = rw s refl
 comes_from (Full value) sources shape idx number f h b e s = absurd (omega arith)
 comes_from (Arange start step) sources shape idx number f h b e s = absurd (omega arith)

@@ -16,7 +16,7 @@ use Rattle.cu_view_box.specs.Piece.{count_along, IsWayOver}
 use Rattle.cu_view_box.specs.Way.{read_by}
 use Rattle.cu_view_box.specs.declared.way.Way.{Way}
 use Rattle.cu_view_box.specs.declared.way.Way.TheVariants.{Fixed, Up, Down}
-use Rattle.cu_view.specs.Boxes.{offset_of, range_begin, source_index}
+use Rattle.cu_view.specs.Boxes.{offset_of, range_begin, index_of_source}
 use Rattle.cu_view.specs.Pieces.{turn_on, ranges_of, range_on, range_at, source_number}
 use Rattle.cu_view.proofs.Concats.{concat_at, concat_exactly}
 use Rattle.cu_view.proofs.Fitting.{ltb_tells}
@@ -153,12 +153,12 @@ stacked_reads lo idx way new axis number e l z m =
     other a b n h = grind (arith, nat_tests)
 
 pub concat_reads : (join : ℕ) (sources : List (List ℕ)) (lo idx : List ℕ) (number : ℕ) (way : Way) (axis : ℕ) → way ≡ Up axis 0 1 → get_or lo axis 0 ≡ (if axis == join then offset_of join sources number else 0) → join < length idx → number < length sources
-    → get_or idx join 0 < sum_by (λ source. get_or source join 0) sources → source_number (concat_from join 0 sources idx) ≡ number → read_in lo idx way ≡ get_or (source_index (concat_from join 0 sources idx)) axis 0
+    → get_or idx join 0 < sum_by (λ source. get_or source join 0) sources → source_number (concat_from join 0 sources idx) ≡ number → read_in lo idx way ≡ get_or (index_of_source (concat_from join 0 sources idx)) axis 0
 concat_reads join sources lo idx number way axis e z l n b s =
     let w = (concat_exactly join number sources idx l n b).1 s in
     let c = concat_at join 0 number sources idx l n w.0 w.1 in
-    let v : get_or (source_index (concat_from join 0 sources idx)) axis 0 ≡ (if axis == join then get_or idx join 0 - offset_of join sources number else get_or idx axis 0) = ap (λ (p : Provenance). get_or (source_index p) axis 0) c ∙ set_at idx join (get_or idx join 0 - offset_of join sources number) axis l in
-    read_along lo idx way axis 0 (if axis == join then offset_of join sources number else 0) (get_or (source_index (concat_from join 0 sources idx)) axis 0) e z (joined (get_or idx axis 0) _ v)
+    let v : get_or (index_of_source (concat_from join 0 sources idx)) axis 0 ≡ (if axis == join then get_or idx join 0 - offset_of join sources number else get_or idx axis 0) = ap (λ (p : Provenance). get_or (index_of_source p) axis 0) c ∙ set_at idx join (get_or idx join 0 - offset_of join sources number) axis l in
+    read_along lo idx way axis 0 (if axis == join then offset_of join sources number else 0) (get_or (index_of_source (concat_from join 0 sources idx)) axis 0) e z (joined (get_or idx axis 0) _ v)
   where
     joined : (i v : ℕ) → v ≡ (if axis == join then get_or idx join 0 - offset_of join sources number else get_or idx axis 0) → 0 + (get_or idx axis 0 - (if axis == join then offset_of join sources number else 0)) ≡ v
     joined i v g = elim (eqb_tells axis join) [

@@ -34,14 +34,14 @@ source_of (Stack axis) number = number
 source_of pull number = 0
 
 -- the index that comes from a source
-abbrev pub source_index : Provenance → List ℕ
-source_index (From s i) = i
-source_index (Const x) = []
+abbrev pub index_of_source : Provenance → List ℕ
+index_of_source (From s i) = i
+index_of_source (Const x) = []
 
 -- the index of its source that a piece reads at an index of its box, also where a triangle has 0
 abbrev pub index_read : Pull → List (List ℕ) → List ℕ → List ℕ → List ℕ
 index_read (Triangle lower k) sources shape idx = idx
-index_read pull sources shape idx = source_index (origin_of pull sources shape idx)
+index_read pull sources shape idx = index_of_source (origin_of pull sources shape idx)
 
 -- ---- slices
 

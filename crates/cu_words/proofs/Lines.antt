@@ -5,7 +5,7 @@ use Rattle.clap.specs.declared.parser.matches.ArgMatches.{ArgMatches}
 use Rattle.cu_words.specs.Line.{LinePart, line_parts, positionals_given}
 use Rattle.cu_words.specs.Options.{command_named, option_names, option_row, positional_count}
 use Rattle.cu_words.specs.Reader.{IsParted, positional_name, values_found}
-use Rattle.cu_words.specs.Words.{GivenLine, IsLineRead, line_after, line_in, line_given, line_with, numbers_of}
+use Rattle.cu_words.specs.Words.{GivenLine, IsLineRead, line_after, line_in, line_given, line_with, numbers_for}
 use Rattle.cu_words.specs.declared.line.CommandLine.{CommandLine}
 use Rattle.cu_words.specs.declared.line.LineFault.{LineFault}
 use Rattle.cu_words.specs.declared.line.LineFault.TheVariants.{Refused, NoMemory}
@@ -34,11 +34,11 @@ read_fault command parts NoMemory parted = tt
 read_fault command parts (Refused code) parted = ap (line_in command) parted.0 ∙ ap Err (sym parted.1)
 
 pub read_found : (command : CommandName) (parts : Option (List LinePart)) (m : ArgMatches) (r : Result CommandLine LineFault) → IsParted parts (Ok m)
-    → IsLineRead (line_with command (values_found m positional_name) (numbers_of command (λ o. values_found m (option_row o).name))) r → IsLineRead (line_in command parts) r
+    → IsLineRead (line_with command (values_found m positional_name) (numbers_for command (λ o. values_found m (option_row o).name))) r → IsLineRead (line_in command parts) r
 read_found command parts m r (ps, is, found) read =
-    let same : line_with command (values_found m positional_name) (numbers_of command (λ o. values_found m (option_row o).name)) ≡ line_in command parts =
-    ap (λ (words : List (List ℕ)). line_with command words (numbers_of command (λ o. values_found m (option_row o).name))) found.positionals
-    ∙ ap (λ (given : OptionName → List (List ℕ)). line_with command (positionals_given ps) (numbers_of command given)) (λ i o. found.options o i)
+    let same : line_with command (values_found m positional_name) (numbers_for command (λ o. values_found m (option_row o).name)) ≡ line_in command parts =
+    ap (λ (words : List (List ℕ)). line_with command words (numbers_for command (λ o. values_found m (option_row o).name))) found.positionals
+    ∙ ap (λ (given : OptionName → List (List ℕ)). line_with command (positionals_given ps) (numbers_for command given)) (λ i o. found.options o i)
     ∙ ap (line_in command) (sym is) in
     subst (λ (l : Result GivenLine ℕ). IsLineRead l r) same read
 

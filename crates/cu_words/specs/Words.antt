@@ -76,17 +76,17 @@ numbers_given given = if has_numbers given then Some (record {
 }) else None
 
 -- some value is given
-abbrev pub is_given : List (List ℕ) → Bool
-is_given [] = false
-is_given (value ∷ more) = true
+abbrev pub has_setting : List (List ℕ) → Bool
+has_setting [] = false
+has_setting (value ∷ more) = true
 
 -- each option is given that the command must have
 abbrev pub has_required : CommandName → (OptionName → List (List ℕ)) → Bool
-has_required command given = list_all (λ o. is_given (given o)) (required_of command)
+has_required command given = list_all (λ o. has_setting (given o)) (required_of command)
 
 -- the numbers of a command; None where such an option is missing, too
-abbrev pub numbers_of : CommandName → (OptionName → List (List ℕ)) → Option Numbers
-numbers_of command given = if has_required command given then numbers_given given else None
+abbrev pub numbers_for : CommandName → (OptionName → List (List ℕ)) → Option Numbers
+numbers_for command given = if has_required command given then numbers_given given else None
 
 -- a number of the option's range
 abbrev pub IsInRow : OptionName → ℕ → Type 0
@@ -123,7 +123,7 @@ line_with command words (Some numbers) =
 abbrev pub line_in : CommandName → Option (List LinePart) → Result GivenLine ℕ
 line_in command None = Err 2
 line_in command (Some parts) =
-    line_with command (positionals_given parts) (numbers_of command (option_values parts))
+    line_with command (positionals_given parts) (numbers_for command (option_values parts))
 
 abbrev pub line_after : Option CommandName → List (List ℕ) → Result GivenLine ℕ
 line_after None words = Err 1

@@ -5,8 +5,8 @@ ghost use Rattle.cu_words.specs.Line.{has_stray, is_stray, line_parts};
 ghost use Rattle.cu_words.specs.Options.{option_names, option_row};
 ghost use Rattle.cu_words.specs.Reader.{IsFaultOf, IsParted, options_found, positional_name, told, values_found};
 ghost use Rattle.cu_words.specs.Words.{AreInRange, IsInRow, IsLineRead, line_given, line_with};
-ghost use Rattle.cu_words.specs.Words.{demo_size, has_required, is_given, number_between};
-ghost use Rattle.cu_words.specs.Words.{number_by, numbers_given, numbers_of};
+ghost use Rattle.cu_words.specs.Words.{demo_size, has_required, has_setting, number_between};
+ghost use Rattle.cu_words.specs.Words.{number_by, numbers_given, numbers_for};
 
 use crate::options::{CommandName, OptionName};
 use clap::error::ErrorKind;
@@ -81,7 +81,7 @@ fn line_found<'a>(
     matches: &ArgMatches<'a>,
 ) -> Result<CommandLine<'a>, LineFault>
     ensures line { IsLineRead (line_with command (values_found matches.now positional_name)
-        (numbers_of command (options_found matches.now))) result }
+        (numbers_for command (options_found matches.now))) result }
     ensures ranges { IfOk result (λ l. AreInRange l.numbers) }
 {
     let Some(numbers) = numbers_of(command, matches) else {
@@ -100,7 +100,7 @@ fn line_found<'a>(
 
 /// The numbers of all options, where those are given that the command must have.
 fn numbers_of(command: CommandName, matches: &ArgMatches) -> Option<Numbers>
-    ensures numbers { result ≡ numbers_of command (options_found matches.now) }
+    ensures numbers { result ≡ numbers_for command (options_found matches.now) }
     ensures ranges { IfSome result AreInRange }
 {
     if has_required(command, matches) {
@@ -125,7 +125,7 @@ fn has_required(command: CommandName, matches: &ArgMatches) -> bool
 
 /// Whether the option is given.
 fn is_given(matches: &ArgMatches, option: OptionName) -> bool
-    ensures { result ≡ is_given (options_found matches.now option) }
+    ensures { result ≡ has_setting (options_found matches.now option) }
 {
     let row = option.row();
     match matches.get_strs(row.name) {

@@ -17,7 +17,7 @@ use Rattle.cu_op.specs.PlanView.{PlanView}
 use Rattle.cu_op.specs.Schedule.{key_of}
 use Rattle.cu_work.specs.World.{IsStored}
 use Rattle.cu_work.proofs.Searching.{held_stays, none_fills, told_then}
-use Rattle.cu_work.specs.Asked.{Search, HasAsked, IsAsking, IsSoughtInput, has_key}
+use Rattle.cu_work.specs.Asked.{Asking, HasAsked, IsAsking, IsSoughtInput, has_key}
 use Rattle.cu_work.specs.Part.{HasInputs, LacksChunk, LacksInput}
 
 -- ---- keys in a set
@@ -111,7 +111,7 @@ lacks_input_before p k task l m old new step lacks held told =
 
 -- ---- asking goes on
 
-module _ (s : Search) (own : ℕ) (known : List ℕ → Bool) (old : Shown) (a : IsAsking s own known old) where
+module _ (s : Asking) (own : ℕ) (known : List ℕ → Bool) (old : Shown) (a : IsAsking s own known old) where
   pub asked_of : HasAsked s own old
   asked_of = record {
     inputs = a.inputs;

@@ -24,7 +24,7 @@ use Rattle.cu_work.specs.World.{IsStored}
 use Rattle.cu_work.specs.declared.find.FindFault.{FindFault}
 use Rattle.cu_work.specs.declared.find.FindFault.TheVariants as find
 use Rattle.cu_work.proofs.Searching.{asked_key, fault_calls, told_then, told_first, stored_of, of_stored}
-use Rattle.cu_work.specs.Asked.{Search, search_of, AreChosen, HasAsked, IsAbsent, IsAsking, IsChoice, IsChoiceFault, IsInputFault, IsSoughtInput, IsUnstarted, WentOn, AreReadyBefore, fault_of, own_chunks}
+use Rattle.cu_work.specs.Asked.{Asking, asking_of, AreChosen, HasAsked, IsAbsent, IsAsking, IsChoice, IsChoiceFault, IsLookUpFault, IsSoughtInput, IsUnstarted, AskedOn, AreReadyBefore, look_up_fault, own_chunks}
 use Rattle.cu_work.specs.Part.{IsInPart, IsMadeInput, HasInputs, LacksChunk, LacksInput}
 use Rattle.cu_work.specs.declared.part.Part.{Part}
 use Rattle.cu_work.specs.declared.part.PartFault.{PartFault}
@@ -60,34 +60,34 @@ absent_at_first tries old new key step answer = λ held told.
 pub absent_lacks : (p : PlanView) (k task : ℕ) (key : List ℕ) (shown : Shown) → IsMadeInput p k task key → IsAbsent key shown → LacksInput p k task shown
 absent_lacks p k task key shown made absent = λ held told. (key, made, absent held told)
 
-module _ (p : PlanView) (q : Part) (tries task : ℕ) (within : IsInPart q task) (start : Shown) (own : ℕ) (lacks : LacksChunk p q.op task start) (known : List ℕ → Bool) (old : Shown) (a : IsAsking (search_of p q tries start) own known old) where
-  pub known_asked : (key : List ℕ) → known key ≡ true → WentOn {E = FindFault} (search_of p q tries start) own known old (Ok true) × (IsTrue true → IsHeldIn old.held key)
-  known_asked key holds_so = (a, λ so. known_held (search_of p q tries start) own known old a key holds_so)
+module _ (p : PlanView) (q : Part) (tries task : ℕ) (within : IsInPart q task) (start : Shown) (own : ℕ) (lacks : LacksChunk p q.op task start) (known : List ℕ → Bool) (old : Shown) (a : IsAsking (asking_of p q tries start) own known old) where
+  pub known_asked : (key : List ℕ) → known key ≡ true → AskedOn {E = FindFault} (asking_of p q tries start) own known old (Ok true) × (IsTrue true → IsHeldIn old.held key)
+  known_asked key holds_so = (a, λ so. known_held (asking_of p q tries start) own known old a key holds_so)
 
   module _ (key : List ℕ) (made : IsMadeInput p q.op task key) (unknown : known key ≡ false) (later : List ℕ → Bool) (more : (other : List ℕ) → later other ≡ (known other || bytes_eq key other)) (new : Shown) (step : Steps NoChange 1 tries old new) where
-    sought : IsSoughtInput (search_of p q tries start) key
+    sought : IsSoughtInput (asking_of p q tries start) key
     sought = (task, within, lacks, made)
 
-    pub found_asked : (held : Bool) → Answers new.held key (Ok held) → WentOn {E = FindFault} (search_of p q tries start) own later new (Ok held) × (IsTrue held → IsHeldIn new.held key)
+    pub found_asked : (held : Bool) → Answers new.held key (Ok held) → AskedOn {E = FindFault} (asking_of p q tries start) own later new (Ok held) × (IsTrue held → IsHeldIn new.held key)
     found_asked true answer =
         let asked = asked_key tries old new key true step answer in
         let held = All-head (IsHeldIn new.held) key [] (asked.held refl) in
-        (input_found (search_of p q tries start) own known old a key unknown sought new step later more held, λ so. held)
-    found_asked false answer = (input_asked (search_of p q tries start) own known old a key unknown sought new step, λ so. absurd (let e : false ≡ true = so in cc))
+        (input_found (asking_of p q tries start) own known old a key unknown sought new step later more held, λ so. held)
+    found_asked false answer = (input_asked (asking_of p q tries start) own known old a key unknown sought new step, λ so. absurd (let e : false ≡ true = so in cc))
 
-    pub failed_asked : HasAsked (search_of p q tries start) own new
-    failed_asked = input_asked (search_of p q tries start) own known old a key unknown sought new step
+    pub failed_asked : HasAsked (asking_of p q tries start) own new
+    failed_asked = input_asked (asking_of p q tries start) own known old a key unknown sought new step
 
 pub cell_asked : (W : Type 0) (r : Result Bool FindFault) (h : Option Contents) (key at : List ℕ) (M : Type 0) → key ≡ at → W × IfOk r (λ held. IsTrue held → IsHeldIn h key)
     → W × IfOk r (λ held. IsTrue held → M → IsHeldIn h at)
 cell_asked W (Ok held) h key at M is (on, found) = (on, λ so maker. subst (λ (k : List ℕ). IsHeldIn h k) is (found so))
 cell_asked W (Err f) h key at M is (on, found) = (on, tt)
 
-pub went_true : (s : Search) (own : ℕ) (known : List ℕ → Bool) (now : Shown) (H : Bool → Type 0) (b : Bool) → b ≡ true → WentOn {E = FindFault} s own known now (Ok b) × H b → IsAsking s own known now × H true
+pub went_true : (s : Asking) (own : ℕ) (known : List ℕ → Bool) (now : Shown) (H : Bool → Type 0) (b : Bool) → b ≡ true → AskedOn {E = FindFault} s own known now (Ok b) × H b → IsAsking s own known now × H true
 went_true s own known now H true e went = went
 went_true s own known now H false e went = cc
 
-pub went_false : (s : Search) (own : ℕ) (known : List ℕ → Bool) (now : Shown) (H : Bool → Type 0) (b : Bool) → b ≡ false → WentOn {E = FindFault} s own known now (Ok b) × H b → HasAsked s own now × H false
+pub went_false : (s : Asking) (own : ℕ) (known : List ℕ → Bool) (now : Shown) (H : Bool → Type 0) (b : Bool) → b ≡ false → AskedOn {E = FindFault} s own known now (Ok b) × H b → HasAsked s own now × H false
 went_false s own known now H false e went = went
 went_false s own known now H true e went = cc
 
@@ -98,8 +98,8 @@ pub record InputsSoFar (p : PlanView) (q : Part) (tries task : ℕ) (known : (Li
   pub chunks : All (IsChunk p.arrays) left
   pub listed : (c : Cell) → Contains left c → Contains (read_chunks p.arrays (op_of p q.op) task) c
   pub step : Steps NoChange 0 last_count shown.0 shown.1
-  pub asked : (start : Shown) (own : ℕ) → LacksChunk p q.op task start → IsAsking (search_of p q tries start) own known.0 shown.0
-      → IsAsking (search_of p q tries start) own known.1 shown.1
+  pub asked : (start : Shown) (own : ℕ) → LacksChunk p q.op task start → IsAsking (asking_of p q tries start) own known.0 shown.0
+      → IsAsking (asking_of p q tries start) own known.1 shown.1
       × ((c : Cell) → Contains (read_chunks p.arrays (op_of p q.op) task) c → Contains left c ⊎ (maker_at p.arrays c.array ≢ None → IsHeldIn shown.1.held (key_of p.arrays c)))
 
 pub inputs_at_first : (p : PlanView) (q : Part) (tries task : ℕ) (known : List ℕ → Bool) (shown : Shown) (cells left : List Cell) → left ≡ cells → cells ≡ read_chunks p.arrays (op_of p q.op) task
@@ -118,13 +118,13 @@ here_or_behind x c xs (suc i, below, e) = inr (i, omega (arith, below), e)
 rose_before : (n a b c : ℕ) → a ≤ b → Rose n b c → Rose n a c
 rose_before n a b c more rose = omega (arith, more, rose)
 
-fault_before : (tries : ℕ) (first now new : Shown) (IsOne : List ℕ → Type 0) → Steps NoChange 0 last_count first now → (f : FindFault) → IsInputFault tries (now, new) IsOne f → IsInputFault tries (first, new) IsOne f
+fault_before : (tries : ℕ) (first now new : Shown) (IsOne : List ℕ → Type 0) → Steps NoChange 0 last_count first now → (f : FindFault) → IsLookUpFault tries (now, new) IsOne f → IsLookUpFault tries (first, new) IsOne f
 fault_before tries first now new IsOne step (find.Failed key) (one, rose) = (one, let more = step.count in rose_before tries first.faults now.faults new.faults more rose)
 fault_before tries first now new IsOne step find.NoMemory cause = tt
 
 module _ (p : PlanView) (q : Part) (tries task : ℕ) (known0 known : List ℕ → Bool) (first now : Shown) (left : List Cell) (so_far : InputsSoFar p q tries task (known0, known) (first, now) left) where
-  pub inputs_all : left ≡ [] → (start : Shown) (own : ℕ) → LacksChunk p q.op task start → IsAsking (search_of p q tries start) own known0 first
-      → WentOn {E = FindFault} (search_of p q tries start) own known now (Ok true) × (IsTrue true → HasInputs p q.op task now.held)
+  pub inputs_all : left ≡ [] → (start : Shown) (own : ℕ) → LacksChunk p q.op task start → IsAsking (asking_of p q tries start) own known0 first
+      → AskedOn {E = FindFault} (asking_of p q tries start) own known now (Ok true) × (IsTrue true → HasInputs p q.op task now.held)
   inputs_all none start own lacks a =
       let (on, each) = so_far.asked start own lacks a in
       (on, λ so key made. let (c, listed, maker, at) = made in has (each c listed) key maker at)
@@ -144,8 +144,8 @@ module _ (p : PlanView) (q : Part) (tries task : ℕ) (known0 known : List ℕ �
       pub inputs_step : Steps NoChange 0 last_count first new
       inputs_step = ever_then first now new so_far.step step
 
-      pub inputs_more : ((start : Shown) (own : ℕ) → LacksChunk p q.op task start → IsAsking (search_of p q tries start) own known now
-          → IsAsking (search_of p q tries start) own known1 new × (IsTrue true → maker_at p.arrays cell.array ≢ None → IsHeldIn new.held (key_of p.arrays cell)))
+      pub inputs_more : ((start : Shown) (own : ℕ) → LacksChunk p q.op task start → IsAsking (asking_of p q tries start) own known now
+          → IsAsking (asking_of p q tries start) own known1 new × (IsTrue true → maker_at p.arrays cell.array ≢ None → IsHeldIn new.held (key_of p.arrays cell)))
           → InputsSoFar p q tries task (known0, known1) (first, new) later
       inputs_more asks = record {
         chunks = All-tail (IsChunk p.arrays) cell later (subst (All (IsChunk p.arrays)) e so_far.chunks);
@@ -173,7 +173,7 @@ module _ (p : PlanView) (q : Part) (tries task : ℕ) (known0 known : List ℕ �
       pub inputs_lack : LacksInput p q.op task now → LacksInput p q.op task first
       inputs_lack lacks = lacks_input_before p q.op task 0 last_count first now so_far.step lacks
 
-      pub inputs_fault : (f : FindFault) → IsInputFault tries (now, new) (IsMadeInput p q.op task) f → IsInputFault tries (first, new) (IsMadeInput p q.op task) f
+      pub inputs_fault : (f : FindFault) → IsLookUpFault tries (now, new) (IsMadeInput p q.op task) f → IsLookUpFault tries (first, new) (IsMadeInput p q.op task) f
       inputs_fault f cause = fault_before tries first now new (IsMadeInput p q.op task) so_far.step f cause
 
 -- ---- the chunks that a task writes
@@ -218,18 +218,18 @@ middle (x ∷ front) back key = let (i, below, e) = middle front back key in (su
 
 -- ---- a task is chosen or passed
 
-module _ (p : PlanView) (q : Part) (tries task : ℕ) (within : IsInPart q task) (start : Shown) (own : ℕ) (known : List ℕ → Bool) (old : Shown) (a : IsAsking (search_of p q tries start) own known old) where
+module _ (p : PlanView) (q : Part) (tries task : ℕ) (within : IsInPart q task) (start : Shown) (own : ℕ) (known : List ℕ → Bool) (old : Shown) (a : IsAsking (asking_of p q tries start) own known old) where
   abbrev chunks : ℕ
   chunks = length (written_chunks p.arrays (op_of p q.op) task)
 
   pub passed_task : (new : Shown) → AreAsked tries (task_keys p q.op task) old new true
-      → IsAsking (search_of p q tries start) (own + chunks) known new × ((held : Contents) → new.held ≡ Some held → IsStored p held q.op task)
+      → IsAsking (asking_of p q tries start) (own + chunks) known new × ((held : Contents) → new.held ≡ Some held → IsStored p held q.op task)
   passed_task new asked = (
-    own_asked (search_of p q tries start) own known old a chunks new (task_step p q tries task old new true asked),
+    own_asked (asking_of p q tries start) own known old a chunks new (task_step p q tries task old new true asked),
     task_stored p q tries task old new true asked refl,
   )
 
-  search_fault : (new : Shown) (f : FindFault) → IsSearchFault tries (task_keys p q.op task) (old, new) f → IsChoiceFault (search_of p q tries start) task new (fault_of f)
+  search_fault : (new : Shown) (f : FindFault) → IsSearchFault tries (task_keys p q.op task) (old, new) f → IsChoiceFault (asking_of p q tries start) task new (look_up_fault f)
   search_fault new (find.Failed key) e = (
     let more = a.step.count in let between = e.before.count in let rose = e.cause in omega (arith, more, between, rose),
     inl (task, within, subst (λ (ks : List (List ℕ)). Contains ks key) (sym e.listed) (middle e.front e.back key)),
@@ -237,9 +237,9 @@ module _ (p : PlanView) (q : Part) (tries task : ℕ) (within : IsInPart q task)
   search_fault new find.NoMemory e = tt
 
   pub stopped_task : (new : Shown) (f : FindFault) → IsSearchFault tries (task_keys p q.op task) (old, new) f
-      → HasAsked (search_of p q tries start) (own + chunks) new × IsChoiceFault (search_of p q tries start) task new (fault_of f)
+      → HasAsked (asking_of p q tries start) (own + chunks) new × IsChoiceFault (asking_of p q tries start) task new (look_up_fault f)
   stopped_task new f cause = (
-    asked_wider (search_of p q tries start) own known old a chunks new (fault_step p q tries task old new f cause),
+    asked_wider (asking_of p q tries start) own known old a chunks new (fault_step p q tries task old new f cause),
     search_fault new f cause,
   )
 
@@ -247,25 +247,25 @@ module _ (p : PlanView) (q : Part) (tries task : ℕ) (within : IsInPart q task)
     pub lacks_first : LacksChunk p q.op task start
     lacks_first = lacks_chunk_before p q.op task own (tries * (own + length a.inputs)) start old a.step (task_lacks p q tries task old now false asked refl)
 
-    pub asking_on : IsAsking (search_of p q tries start) (own + chunks) known now
-    asking_on = own_asked (search_of p q tries start) own known old a chunks now (task_step p q tries task old now false asked)
+    pub asking_on : IsAsking (asking_of p q tries start) (own + chunks) known now
+    asking_on = own_asked (asking_of p q tries start) own known old a chunks now (task_step p q tries task old now false asked)
 
-    pub lacking_fault : (new : Shown) → LacksInput p q.op task now → HasAsked (search_of p q tries start) (own + chunks) new
-        → HasAsked (search_of p q tries start) (own + chunks) new × IsChoiceFault (search_of p q tries start) task new (part.NotReady task)
+    pub lacking_fault : (new : Shown) → LacksInput p q.op task now → HasAsked (asking_of p q tries start) (own + chunks) new
+        → HasAsked (asking_of p q tries start) (own + chunks) new × IsChoiceFault (asking_of p q tries start) task new (part.NotReady task)
     lacking_fault new lacks has = (
       has,
       (refl, lacks_first, lacks_input_before p q.op task (own + chunks) (tries * ((own + chunks) + length asking_on.inputs)) start now asking_on.step lacks),
     )
 
-    input_fault : (new : Shown) (f : FindFault) → IsInputFault tries (now, new) (IsMadeInput p q.op task) f → IsChoiceFault (search_of p q tries start) task new (fault_of f)
+    input_fault : (new : Shown) (f : FindFault) → IsLookUpFault tries (now, new) (IsMadeInput p q.op task) f → IsChoiceFault (asking_of p q tries start) task new (look_up_fault f)
     input_fault new (find.Failed key) (made, rose) = (
       let more = asking_on.step.count in omega (arith, more, rose),
       inr (task, within, lacks_first, made),
     )
     input_fault new find.NoMemory cause = tt
 
-    pub unasked_fault : (new : Shown) (f : FindFault) → IsInputFault tries (now, new) (IsMadeInput p q.op task) f → HasAsked (search_of p q tries start) (own + chunks) new
-        → HasAsked (search_of p q tries start) (own + chunks) new × IsChoiceFault (search_of p q tries start) task new (fault_of f)
+    pub unasked_fault : (new : Shown) (f : FindFault) → IsLookUpFault tries (now, new) (IsMadeInput p q.op task) f → HasAsked (asking_of p q tries start) (own + chunks) new
+        → HasAsked (asking_of p q tries start) (own + chunks) new × IsChoiceFault (asking_of p q tries start) task new (look_up_fault f)
     unasked_fault new f cause has = (has, input_fault new f cause)
 
 -- ---- the tasks of a part
@@ -275,16 +275,16 @@ pub empty_text : {S : Type 0} (set : HashSet (String Global) S) → set.keys ≡
 empty_text set none key = ap (λ (keys : List (String Global)). list_any (λ k. bytes_eq key (string_bytes k)) keys) none
 
 -- the first n tasks were looked at
-pub record ChosenSoFar (s : Search) (n : ℕ) (known : List ℕ → Bool) (now : Shown) (chosen : List Bool) : Type 0 where
+pub record ChosenSoFar (s : Asking) (n : ℕ) (known : List ℕ → Bool) (now : Shown) (chosen : List Bool) : Type 0 where
   pub whole : length chosen ≡ n
   pub asking : IsAsking s (own_chunks s.plan s.part n) known now
   pub tasks : AreChosen s.plan s.part (s.start, now) chosen
 
-pub none_asked : (p : PlanView) (q : Part) (tries : ℕ) (start : Shown) (own : ℕ) → HasAsked (search_of p q tries start) own start
+pub none_asked : (p : PlanView) (q : Part) (tries : ℕ) (start : Shown) (own : ℕ) → HasAsked (asking_of p q tries start) own start
 none_asked p q tries start own = record {
   inputs = [];
   differ = tt;
-  sought = All-nil (IsSoughtInput (search_of p q tries start));
+  sought = All-nil (IsSoughtInput (asking_of p q tries start));
   step = steps_wider (λ k value change. change) (omega arith) (omega arith) (steps_same NoChange start);
 }
 
@@ -292,14 +292,14 @@ no_index : (i : ℕ) (d : Bool) → slice_index_or [] i d ≡ d
 no_index i d = refl
 
 pub chosen_at_first : (p : PlanView) (q : Part) (tries : ℕ) (known : List ℕ → Bool) (start : Shown) (chosen : List Bool) → chosen ≡ [] → ((key : List ℕ) → known key ≡ false)
-    → ChosenSoFar (search_of p q tries start) 0 known start chosen
+    → ChosenSoFar (asking_of p q tries start) 0 known start chosen
 chosen_at_first p q tries known start chosen e none = record {
   whole = ap length e;
   asking = record {
     inputs = [];
     same = none;
     differ = tt;
-    sought = All-nil (IsSoughtInput (search_of p q tries start));
+    sought = All-nil (IsSoughtInput (asking_of p q tries start));
     step = steps_wider (λ k value change. change) (omega arith) (omega arith) (steps_same NoChange start);
     held = All-nil (IsHeldIn start.held);
   };
@@ -327,7 +327,7 @@ own_grows p q n (suc m) below = elim (cases_lt m n) [
   | inr within ↦ let rest = own_grows p q n m within in omega (arith, rest)
 ]
 
-pub asked_most : (p : PlanView) (q : Part) (tries : ℕ) (start now : Shown) (n m : ℕ) → n ≤ m → HasAsked (search_of p q tries start) (own_chunks p q n) now → HasAsked (search_of p q tries start) (own_chunks p q m) now
+pub asked_most : (p : PlanView) (q : Part) (tries : ℕ) (start now : Shown) (n m : ℕ) → n ≤ m → HasAsked (asking_of p q tries start) (own_chunks p q n) now → HasAsked (asking_of p q tries start) (own_chunks p q m) now
 asked_most p q tries start now n m below has = record {
   inputs = has.inputs;
   differ = has.differ;
@@ -342,9 +342,9 @@ asked_most p q tries start now n m below has = record {
       steps_wider (λ k value change. change) (omega arith) (omega (arith, x, y, w)) has.step;
 }
 
-module _ (p : PlanView) (q : Part) (tries : ℕ) (start : Shown) (n : ℕ) (known : List ℕ → Bool) (now : Shown) (chosen : List Bool) (so_far : ChosenSoFar (search_of p q tries start) n known now chosen) where
-  abbrev s : Search
-  s = search_of p q tries start
+module _ (p : PlanView) (q : Part) (tries : ℕ) (start : Shown) (n : ℕ) (known : List ℕ → Bool) (now : Shown) (chosen : List Bool) (so_far : ChosenSoFar (asking_of p q tries start) n known now chosen) where
+  abbrev s : Asking
+  s = asking_of p q tries start
 
   next_own : own_chunks p q n + length (written_chunks p.arrays (op_of p q.op) (q.from + n)) ≡ own_chunks p q (n + 1)
   next_own = ap (own_chunks p q) (let e : suc n ≡ n + 1 = omega arith in e)
@@ -419,12 +419,12 @@ module _ (p : PlanView) (q : Part) (tries : ℕ) (start : Shown) (n : ℕ) (know
 -- ---- the same by the number of the task
 
 module _ (p : PlanView) (q : Part) (tries : ℕ) (start : Shown) (task : ℕ) (known : List ℕ → Bool) (now : Shown) (chosen : List Bool) (from : q.from ≤ task)
-    (so_far : ChosenSoFar (search_of p q tries start) (task - q.from) known now chosen) where
+    (so_far : ChosenSoFar (asking_of p q tries start) (task - q.from) known now chosen) where
   number : q.from + (task - q.from) ≡ task
   number = omega (arith, from)
 
-  pub all_asked : (n : ℕ) → task - q.from ≤ n → HasAsked (search_of p q tries start) (own_chunks p q n) now
-  all_asked n below = asked_most p q tries start now (task - q.from) n below (asked_of (search_of p q tries start) (own_chunks p q (task - q.from)) known now so_far.asking)
+  pub all_asked : (n : ℕ) → task - q.from ≤ n → HasAsked (asking_of p q tries start) (own_chunks p q n) now
+  all_asked n below = asked_most p q tries start now (task - q.from) n below (asked_of (asking_of p q tries start) (own_chunks p q (task - q.from)) known now so_far.asking)
 
   -- at the end, with a call at least for each chunk that the tasks write
   pub all_called : (n : ℕ) → task - q.from ≡ n → Steps NoChange (own_chunks p q n) last_count start now
@@ -434,22 +434,22 @@ module _ (p : PlanView) (q : Part) (tries : ℕ) (start : Shown) (task : ℕ) (k
       (steps_ever NoChange (own_chunks p q (task - q.from)) (tries * (own_chunks p q (task - q.from) + length asking.inputs)) start now asking.step)
 
   module _ (known1 : List ℕ → Bool) (new : Shown) (step : Steps NoChange 0 last_count now new) where
-    pub chosen_next : (b : Bool) → IsAsking (search_of p q tries start) (own_chunks p q (task - q.from) + length (written_chunks p.arrays (op_of p q.op) task)) known1 new
-        → IsChoice p q.op task start new b → ChosenSoFar (search_of p q tries start) ((task + 1) - q.from) known1 new (chosen ++ b ∷ [])
+    pub chosen_next : (b : Bool) → IsAsking (asking_of p q tries start) (own_chunks p q (task - q.from) + length (written_chunks p.arrays (op_of p q.op) task)) known1 new
+        → IsChoice p q.op task start new b → ChosenSoFar (asking_of p q tries start) ((task + 1) - q.from) known1 new (chosen ++ b ∷ [])
     chosen_next b on choice =
-        subst (λ (n : ℕ). ChosenSoFar (search_of p q tries start) n known1 new (chosen ++ b ∷ [])) (let e : (task - q.from) + 1 ≡ (task + 1) - q.from = omega (arith, from) in e)
+        subst (λ (n : ℕ). ChosenSoFar (asking_of p q tries start) n known1 new (chosen ++ b ∷ [])) (let e : (task - q.from) + 1 ≡ (task + 1) - q.from = omega (arith, from) in e)
         (chosen_more p q tries start (task - q.from) known now chosen so_far known1 new step b
-        (subst (λ (t : ℕ). IsAsking (search_of p q tries start) (own_chunks p q (task - q.from) + length (written_chunks p.arrays (op_of p q.op) t)) known1 new) (sym number) on)
+        (subst (λ (t : ℕ). IsAsking (asking_of p q tries start) (own_chunks p q (task - q.from) + length (written_chunks p.arrays (op_of p q.op) t)) known1 new) (sym number) on)
         (subst (λ (t : ℕ). IsChoice p q.op t start new b) (sym number) choice))
 
-    pub choice_stopped : IsInPart q task → (f : PartFault) → IsChoiceFault (search_of p q tries start) task new f → IsUnstarted (search_of p q tries start) new f
+    pub choice_stopped : IsInPart q task → (f : PartFault) → IsChoiceFault (asking_of p q tries start) task new f → IsUnstarted (asking_of p q tries start) new f
     choice_stopped within f cause =
         choice_ended p q tries start (task - q.from) known now chosen so_far known1 new step (subst (IsInPart q) (sym number) within) f
-        (subst (λ (t : ℕ). IsChoiceFault (search_of p q tries start) t new f) (sym number) cause)
+        (subst (λ (t : ℕ). IsChoiceFault (asking_of p q tries start) t new f) (sym number) cause)
 
-    pub stopped_asked : (n : ℕ) → task < q.from + n → HasAsked (search_of p q tries start) (own_chunks p q (task - q.from) + length (written_chunks p.arrays (op_of p q.op) task)) new
-        → HasAsked (search_of p q tries start) (own_chunks p q n) new
+    pub stopped_asked : (n : ℕ) → task < q.from + n → HasAsked (asking_of p q tries start) (own_chunks p q (task - q.from) + length (written_chunks p.arrays (op_of p q.op) task)) new
+        → HasAsked (asking_of p q tries start) (own_chunks p q n) new
     stopped_asked n below has =
         asked_most p q tries start new ((task - q.from) + 1) n (omega (arith, from, below))
-        (subst (λ (k : ℕ). HasAsked (search_of p q tries start) k new) (next_own p q tries start (task - q.from) known now chosen so_far)
-        (subst (λ (t : ℕ). HasAsked (search_of p q tries start) (own_chunks p q (task - q.from) + length (written_chunks p.arrays (op_of p q.op) t)) new) (sym number) has))
+        (subst (λ (k : ℕ). HasAsked (asking_of p q tries start) k new) (next_own p q tries start (task - q.from) known now chosen so_far)
+        (subst (λ (t : ℕ). HasAsked (asking_of p q tries start) (own_chunks p q (task - q.from) + length (written_chunks p.arrays (op_of p q.op) t)) new) (sym number) has))

@@ -18,10 +18,10 @@ use Rattle.cu_run_law.proofs.Keeping.{left_kept, piece_stays, begun_since}
 use Rattle.cu_work.proofs.AskedKeys.{steps_ever}
 use Rattle.cu_work.proofs.TriedTasks.{chosen_runs}
 use Rattle.cu_run_law.proofs.Elements.{HaveRanges}
-use Rattle.cu_work.specs.Asked.{Search, search_of, AreChosen, HasAsked, IsChosenAt, IsUnstarted, own_chunks}
-use Rattle.cu_work.specs.Ended.{HasCalled, IsPartDone, IsPartEnd, IsPartFault, WereChosen, count_of}
+use Rattle.cu_work.specs.Asked.{Asking, asking_of, AreChosen, HasAsked, IsChosenAt, IsUnstarted, own_chunks}
+use Rattle.cu_work.specs.Ended.{HasCalled, IsPartDone, IsPartEnd, IsPartFault, WereChosen, count_of_part}
 use Rattle.cu_work.specs.Part.{IsInPart, IsPartOf, PartPut}
-use Rattle.cu_work.specs.Tried.{AreStarts, ChosenPut, HaveRun, IsStoppedBy, chosen_calls}
+use Rattle.cu_work.specs.Tried.{AreTaskStarts, ChosenPut, HaveRun, IsStoppedBy, chosen_calls}
 use Rattle.cu_work.specs.declared.part.Part.{Part}
 use Rattle.cu_work.specs.declared.part.PartCounts.{PartCounts}
 use Rattle.cu_work.specs.declared.part.PartFault.{PartFault}
@@ -43,7 +43,7 @@ yes_or_no false = inr refl
 
 -- ---- no task was started
 
-module _ (s : Search) (now : Shown) where
+module _ (s : Asking) (now : Shown) where
   pub unstarted_fault : (f : PartFault) → IsUnstarted s now f → Steps NoChange 0 last_count s.start now → IsPartFault s now f
   unstarted_fault (Failed key) why step = (why, step)
   unstarted_fault (NotReady task) why step = (why, step)
@@ -54,7 +54,7 @@ module _ (s : Search) (now : Shown) where
   pub asked_step : (own : ℕ) → HasAsked s own now → Steps NoChange 0 last_count s.start now
   asked_step own asked = steps_ever NoChange 0 (s.tries * (own + length asked.inputs)) s.start now asked.step
 
-  pub asked_calls : HasAsked s (own_chunks s.plan s.part (count_of s.part)) now → HasCalled s now
+  pub asked_calls : HasAsked s (own_chunks s.plan s.part (count_of_part s.part)) now → HasCalled s now
   asked_calls asked = record {
     inputs = asked.inputs;
     chosen = [];
@@ -73,13 +73,13 @@ not_changed W shown = steps_wider (λ key value change. change) (omega arith) (o
 
 -- ---- the chosen tasks were run
 
-module _ (ranges : HaveRanges) (p : PlanView) (sound : Sound p) (q : Part) (part : IsPartOf p q) (retries : ℕ) (old mid new : Shown) (chosen : List Bool) (whole : length chosen ≡ count_of q)
-    (asked : HasAsked (search_of p q (retries + 1) old) (own_chunks p q (count_of q)) mid) (each : Steps NoChange (own_chunks p q (count_of q)) last_count old mid) (tasks : AreChosen p q (old, mid) chosen) where
-  abbrev s : Search
-  s = search_of p q (retries + 1) old
+module _ (ranges : HaveRanges) (p : PlanView) (sound : Sound p) (q : Part) (part : IsPartOf p q) (retries : ℕ) (old mid new : Shown) (chosen : List Bool) (whole : length chosen ≡ count_of_part q)
+    (asked : HasAsked (asking_of p q (retries + 1) old) (own_chunks p q (count_of_part q)) mid) (each : Steps NoChange (own_chunks p q (count_of_part q)) last_count old mid) (tasks : AreChosen p q (old, mid) chosen) where
+  abbrev s : Asking
+  s = asking_of p q (retries + 1) old
 
   first_step : Steps NoChange 0 last_count old mid
-  first_step = asked_step s mid (own_chunks p q (count_of q)) asked
+  first_step = asked_step s mid (own_chunks p q (count_of_part q)) asked
 
   in_part : (i : ℕ) → IsChosenAt chosen i → IsInPart q (q.from + i)
   in_part i named = let below = index_below chosen i named in (omega arith, let o = part.ordered in omega (arith, below, whole, o))
@@ -90,7 +90,7 @@ module _ (ranges : HaveRanges) (p : PlanView) (sound : Sound p) (q : Part) (part
   left_mid : (env : Elements) → IsLeft (chunks_alone p) env old → IsLeft (chunks_alone p) env mid
   left_mid env left = left_kept (chunks_alone p) env old left 0 last_count mid (steps_none first_step)
 
-  module _ (step : Steps (ChosenPut p q chosen mid) 0 ((retries + 1) * chosen_calls p q chosen (count_of q)) mid new) where
+  module _ (step : Steps (ChosenPut p q chosen mid) 0 ((retries + 1) * chosen_calls p q chosen (count_of_part q)) mid new) where
     chosen_put : Within (ChosenPut p q chosen mid) (PartPut p q old)
     chosen_put key value (i, named, (c, bytes, listed, at, is, valued)) = (
       q.from + i,
@@ -99,13 +99,13 @@ module _ (ranges : HaveRanges) (p : PlanView) (sound : Sound p) (q : Part) (part
       (c, bytes, listed, at, is, λ env left. valued env (left_mid env left)),
     )
 
-    run_step : Steps (PartPut p q old) 0 ((retries + 1) * chosen_calls p q chosen (count_of q)) mid new
+    run_step : Steps (PartPut p q old) 0 ((retries + 1) * chosen_calls p q chosen (count_of_part q)) mid new
     run_step = steps_wider chosen_put (omega arith) (omega arith) step
 
     pub part_step : Steps (PartPut p q old) 0 last_count old new
     part_step =
         let before : Steps (PartPut p q old) 0 last_count old mid = steps_none first_step in
-        steps_ever (PartPut p q old) 0 (last_count + (retries + 1) * chosen_calls p q chosen (count_of q)) old new (steps_then before run_step)
+        steps_ever (PartPut p q old) 0 (last_count + (retries + 1) * chosen_calls p q chosen (count_of_part q)) old new (steps_then before run_step)
 
     pub part_calls : HasCalled s new
     part_calls = record {
@@ -117,9 +117,9 @@ module _ (ranges : HaveRanges) (p : PlanView) (sound : Sound p) (q : Part) (part
       calls = let a = asked.step.calls.1 in let b = step.calls.1 in omega (arith, a, b);
     }
 
-    run_begun : (env : Elements) → IsLeft (chunks_alone p) env mid → Begun (chunks_alone p) env 0 ((retries + 1) * chosen_calls p q chosen (count_of q)) mid new
+    run_begun : (env : Elements) → IsLeft (chunks_alone p) env mid → Begun (chunks_alone p) env 0 ((retries + 1) * chosen_calls p q chosen (count_of_part q)) mid new
     run_begun env left =
-        begun_since (chunks_alone p) env mid left 0 ((retries + 1) * chosen_calls p q chosen (count_of q)) new
+        begun_since (chunks_alone p) env mid left 0 ((retries + 1) * chosen_calls p q chosen (count_of_part q)) new
         (steps_wider (chosen_runs ranges p sound q part chosen retries mid a_task) (omega arith) (omega arith) step)
 
     -- a chunk that was held when all had been asked for holds its value
@@ -132,7 +132,7 @@ module _ (ranges : HaveRanges) (p : PlanView) (sound : Sound p) (q : Part) (part
           | inr (own, has, v) ↦ (own, v, subst (λ (h : Option Contents). Holds h (key_of p.arrays c) own) (sym left.told) has)
         ]
 
-    part_holds : HaveRun p q chosen retries (count_of q) (mid, new) → (env : Elements) (task : ℕ) → IsLeft (chunks_alone p) env old → IsInPart q task → HoldsTask (chunks_alone p) env q.op task new
+    part_holds : HaveRun p q chosen retries (count_of_part q) (mid, new) → (env : Elements) (task : ℕ) → IsLeft (chunks_alone p) env old → IsInPart q task → HoldsTask (chunks_alone p) env q.op task new
     part_holds run env task left (least, less) =
         let i = task - q.from in
         let back : q.from + i ≡ task = omega (arith, least) in
@@ -144,7 +144,7 @@ module _ (ranges : HaveRanges) (p : PlanView) (sound : Sound p) (q : Part) (part
               let few = part.few in
               let cell = written_cell p sound q.op (q.from + i) c.array c.coord (record { operation = part.operation; number = omega (arith, back, less, few); cell = listed }) in
               let (bytes, is) = tasks.stored i at.held (sym (index_anyhow chosen i false true below) ∙ passed) at.told c listed in
-              piece_stays (chunks_alone p) env mid at 0 ((retries + 1) * chosen_calls p q chosen (count_of q)) new (run_begun env at) (Chunk c) cell (held_piece env at c cell at.held at.told bytes is)
+              piece_stays (chunks_alone p) env mid at 0 ((retries + 1) * chosen_calls p q chosen (count_of_part q)) new (run_begun env at) (Chunk c) cell (held_piece env at c cell at.held at.told bytes is)
         ])
 
     abbrev were_chosen : WereChosen s new
@@ -157,12 +157,12 @@ module _ (ranges : HaveRanges) (p : PlanView) (sound : Sound p) (q : Part) (part
       later = step;
     }
 
-    pub part_done : (n : PartCounts) → HaveRun p q chosen retries (count_of q) (mid, new) → AreStarts retries chosen (count_of q) (mid.faults, new.faults) n → IsPartDone s new n
+    pub part_done : (n : PartCounts) → HaveRun p q chosen retries (count_of_part q) (mid, new) → AreTaskStarts retries chosen (count_of_part q) (mid.faults, new.faults) n → IsPartDone s new n
     part_done n run starts = record {
       choice = were_chosen;
       starts =
           let same : retries ≡ (retries + 1) - 1 = omega arith in
-          subst (λ (r : ℕ). AreStarts r chosen (count_of q) (mid.faults, new.faults) n) same starts;
+          subst (λ (r : ℕ). AreTaskStarts r chosen (count_of_part q) (mid.faults, new.faults) n) same starts;
       held = part_holds run;
     }
 
@@ -174,7 +174,7 @@ module _ (ranges : HaveRanges) (p : PlanView) (sound : Sound p) (q : Part) (part
     part_stopped (Failed key) why = absurd why
     part_stopped (NotReady task) why = absurd why
 
-    pub part_end : (result : Result PartCounts PartFault) → OnOk result (HaveRun p q chosen retries (count_of q) (mid, new)) → IfOk result (AreStarts retries chosen (count_of q) (mid.faults, new.faults))
+    pub part_end : (result : Result PartCounts PartFault) → OnOk result (HaveRun p q chosen retries (count_of_part q) (mid, new)) → IfOk result (AreTaskStarts retries chosen (count_of_part q) (mid.faults, new.faults))
         → IfErr result (IsStoppedBy p q chosen (retries + 1) (mid, new)) → IsPartEnd s new result
     part_end (Ok n) run starts stopped = part_done n run starts
     part_end (Err f) run starts stopped = part_stopped f stopped

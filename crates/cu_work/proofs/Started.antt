@@ -21,7 +21,7 @@ use Rattle.cu_table.specs.Step.{Settings, StepOf, Run, Replays}
 use Rattle.cu_table.proofs.Copies.{a_copy, weight, weight_own, weight_other}
 use Rattle.cu_table.proofs.Keeping.{Kept, counted, state_same, state_other, state_small, same_task, step_kept, opening_kept}
 use Rattle.cu_table.proofs.Tallies.{starts_of_task, failures_of_task}
-use Rattle.cu_work.specs.Calls.{sum_below, calls_of_tasks}
+use Rattle.cu_work.specs.Calls.{sum_of_first, calls_of_tasks}
 use Rattle.cu_work.specs.Drive.{IsTaskMost}
 use Rattle.cu_work.specs.Starts.{started_calls, most_starts, IsOfWorkers}
 use Rattle.cu_work.proofs.Sums.{sum_same}

@@ -1,10 +1,10 @@
 -- Sums of the values at the numbers below one.
 use Rattle.std.proofs.Common.{◌≡◌, ◌≢◌, inl, inr, ℕ, zero, suc, ◌+◌, ◌*◌, ◌<◌, ◌≤◌, refl, sym, subst, arith}
 use Rattle.std.proofs.lemmas.Bool.{cases_eq}
-use Rattle.cu_work.specs.Calls.{sum_below}
+use Rattle.cu_work.specs.Calls.{sum_of_first}
 
 -- equal values have one sum
-pub sum_same : (f h : ℕ → ℕ) (n : ℕ) → ((i : ℕ) → i < n → h i ≡ f i) → sum_below h n ≡ sum_below f n
+pub sum_same : (f h : ℕ → ℕ) (n : ℕ) → ((i : ℕ) → i < n → h i ≡ f i) → sum_of_first h n ≡ sum_of_first f n
 sum_same f h zero same = refl
 sum_same f h (suc n) same =
     let rest = sum_same f h n (λ i low. same i (omega (arith, low))) in
@@ -12,7 +12,7 @@ sum_same f h (suc n) same =
     omega (arith, rest, last)
 
 -- where one value is more by x, so is the sum
-pub sum_more : (f h : ℕ → ℕ) (j x n : ℕ) → j < n → ((i : ℕ) → i < n → i ≢ j → h i ≡ f i) → h j ≡ f j + x → sum_below h n ≡ sum_below f n + x
+pub sum_more : (f h : ℕ → ℕ) (j x n : ℕ) → j < n → ((i : ℕ) → i < n → i ≢ j → h i ≡ f i) → h j ≡ f j + x → sum_of_first h n ≡ sum_of_first f n + x
 sum_more f h j x zero low others own = absurd (omega (arith, low))
 sum_more f h j x (suc n) low others own =
     elim (cases_eq n j) [
@@ -27,7 +27,7 @@ sum_more f h j x (suc n) low others own =
     ]
 
 -- where each value is at most c times another, so is the sum
-pub sum_times : (f h : ℕ → ℕ) (c n : ℕ) → ((i : ℕ) → i < n → f i ≤ c * h i) → sum_below f n ≤ c * sum_below h n
+pub sum_times : (f h : ℕ → ℕ) (c n : ℕ) → ((i : ℕ) → i < n → f i ≤ c * h i) → sum_of_first f n ≤ c * sum_of_first h n
 sum_times f h c zero few = omega arith
 sum_times f h c (suc n) few =
     let rest = sum_times f h c n (λ i low. few i (omega (arith, low))) in

@@ -27,11 +27,11 @@ use Rattle.cu_run_law.proofs.Elements.{HaveRanges}
 use Rattle.cu_run_law.proofs.Keeping.{left_kept, piece_stays, begun_since}
 use Rattle.cu_run_law.proofs.Reading.{input_or_made, not_none, task_ready}
 use Rattle.cu_task.specs.Task.{TaskChange, HoldsCells, IsTaskReady, IsTaskFault, calls_of}
-use Rattle.cu_work.specs.Calls.{sum_below}
+use Rattle.cu_work.specs.Calls.{sum_of_first}
 use Rattle.cu_work.proofs.Searching.{Fills, held_stays}
 use Rattle.cu_work.specs.Asked.{AreChosen, IsChosenAt}
 use Rattle.cu_work.specs.Part.{HasInputs, IsPartOf, TaskPut}
-use Rattle.cu_work.specs.Tried.{AreStarts, ChosenPut, HaveRun, IsMemoryOf, IsTaskEnd, IsTried, IsStoppedBy, ends_tries, task_fault, task_id, chosen_below, chosen_calls}
+use Rattle.cu_work.specs.Tried.{AreTaskStarts, ChosenPut, HaveRun, IsMemoryOf, IsTaskEnd, IsTried, IsStoppedBy, ends_tries, task_fault, task_id, chosen_below, chosen_calls}
 use Rattle.cu_work.specs.declared.part.Part.{Part}
 use Rattle.cu_work.specs.declared.part.PartCounts.{PartCounts}
 use Rattle.cu_work.specs.declared.trying.TaskMemory.{TaskMemory}
@@ -304,10 +304,10 @@ named_below (b ∷ bs) (suc i) named = let rest = named_below bs i named in omeg
 
 -- ---- sums over the chosen
 
-pub sum_grows : (f : ℕ → ℕ) (n m : ℕ) → n ≤ m → sum_below f n ≤ sum_below f m
-sum_grows f n zero below = subst (λ (x : ℕ). sum_below f x ≤ 0) (let e : 0 ≡ n = omega arith in e) (omega arith)
+pub sum_grows : (f : ℕ → ℕ) (n m : ℕ) → n ≤ m → sum_of_first f n ≤ sum_of_first f m
+sum_grows f n zero below = subst (λ (x : ℕ). sum_of_first f x ≤ 0) (let e : 0 ≡ n = omega arith in e) (omega arith)
 sum_grows f n (suc m) below = elim (cases_lt m n) [
-  | inl past ↦ subst (λ (x : ℕ). sum_below f n ≤ sum_below f x) (let e : n ≡ suc m = omega arith in e) (omega arith)
+  | inl past ↦ subst (λ (x : ℕ). sum_of_first f n ≤ sum_of_first f x) (let e : n ≡ suc m = omega arith in e) (omega arith)
   | inr within ↦ let rest = sum_grows f n m within in omega (arith, rest)
 ]
 
@@ -324,7 +324,7 @@ chosen_more chosen n b is =
     let e : suc n ≡ n + 1 = omega arith in
     sym (ap (chosen_below chosen) e) ∙ ap (λ (x : Bool). chosen_below chosen n + (if x then 1 else 0)) is
 
-pub starts_none : (retries faults : ℕ) (chosen : List Bool) → AreStarts retries chosen 0 (faults, faults) (record { starts = 0; failures = 0 })
+pub starts_none : (retries faults : ℕ) (chosen : List Bool) → AreTaskStarts retries chosen 0 (faults, faults) (record { starts = 0; failures = 0 })
 starts_none retries faults chosen = (refl, omega arith, omega arith)
 
 -- the counts of so few tasks are small
@@ -333,8 +333,8 @@ starts_fit retries below n failed starts failures is least few small more =
     let m : retries * below ≤ 8 * below = mul-le-mul_right below small in
     omega (arith, is, least, few, small, more, m)
 
-module _ (retries : ℕ) (chosen : List Bool) (n a b : ℕ) (c : PartCounts) (so_far : AreStarts retries chosen n (a, b) c) where
-  pub starts_pass : slice_index_or chosen n false ≡ false → AreStarts retries chosen (n + 1) (a, b) c
+module _ (retries : ℕ) (chosen : List Bool) (n a b : ℕ) (c : PartCounts) (so_far : AreTaskStarts retries chosen n (a, b) c) where
+  pub starts_pass : slice_index_or chosen n false ≡ false → AreTaskStarts retries chosen (n + 1) (a, b) c
   starts_pass passed =
       let more = chosen_more chosen n false passed in
       let e : chosen_below chosen (n + 1) ≡ chosen_below chosen n = omega (arith, more) in
@@ -344,7 +344,7 @@ module _ (retries : ℕ) (chosen : List Bool) (n a b : ℕ) (c : PartCounts) (so
       (omega (arith, e, s), omega (arith, m, f), so_far.2)
 
   pub starts_more : (d failed : ℕ) → IsChosenAt chosen n → failed ≤ retries → Rose failed b d
-      → AreStarts retries chosen (n + 1) (a, d) (record { starts = c.starts + (failed + 1); failures = c.failures + failed })
+      → AreTaskStarts retries chosen (n + 1) (a, d) (record { starts = c.starts + (failed + 1); failures = c.failures + failed })
   starts_more d failed named few rose =
       let more = chosen_more chosen n true named in
       let e : chosen_below chosen (n + 1) ≡ chosen_below chosen n + 1 = omega (arith, more) in
@@ -359,7 +359,7 @@ module _ (retries : ℕ) (chosen : List Bool) (n a b : ℕ) (c : PartCounts) (so
 pub record RunSoFar (p : PlanView) (q : Part) (chosen : List Bool) (retries n : ℕ) (shown : Shown × Shown) (memory : TaskMemory) (c : PartCounts) : Type 0 where
   pub lent : IsMemoryOf p q.op memory
   pub run : HaveRun p q chosen retries n shown
-  pub starts : AreStarts retries chosen n (shown.0.faults, shown.1.faults) c
+  pub starts : AreTaskStarts retries chosen n (shown.0.faults, shown.1.faults) c
 
 module _ (ranges : HaveRanges) (p : PlanView) (sound : Sound p) (q : Part) (part : IsPartOf p q) (chosen : List Bool) (retries : ℕ) (first : Shown) (whole : length chosen ≡ q.to - q.from)
     (n : ℕ) (below : n < length chosen) (now : Shown) (memory : TaskMemory) (c : PartCounts) (so_far : RunSoFar p q chosen retries n (first, now) memory c) where

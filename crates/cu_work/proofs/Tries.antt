@@ -20,7 +20,7 @@ use Rattle.cu_table.specs.Step.{Settings, Step, StepOf}
 use Rattle.cu_table.specs.Table.{start_event, end_of, report_kind}
 use Rattle.cu_table.proofs.Copies.{a_copy, copies_of, weight, weight_own, weight_other}
 use Rattle.cu_table.proofs.Keeping.{Kept, state_same, state_other, state_small, same_task, step_kept}
-use Rattle.cu_work.specs.Calls.{sum_below}
+use Rattle.cu_work.specs.Calls.{sum_of_first}
 use Rattle.cu_work.proofs.Sums.{sum_same, sum_more, sum_times}
 
 -- ---- a cost of each start
@@ -28,14 +28,14 @@ use Rattle.cu_work.proofs.Sums.{sum_same, sum_more, sum_times}
 module _ (p : PlanView) (cost : ℕ → ℕ → ℕ) where
   -- what so many starts of each task of an operation cost, and of all operations
   abbrev pub spent_in : (ℕ → ℕ → ℕ) → ℕ → ℕ
-  spent_in starts k = sum_below (λ task. starts k task * cost k task) (tasks_of p.arrays (op_of p k))
+  spent_in starts k = sum_of_first (λ task. starts k task * cost k task) (tasks_of p.arrays (op_of p k))
 
   abbrev pub spent : (ℕ → ℕ → ℕ) → ℕ
-  spent starts = sum_below (spent_in starts) (length p.ops)
+  spent starts = sum_of_first (spent_in starts) (length p.ops)
 
   -- what one start of each costs
   abbrev pub spent_once : ℕ
-  spent_once = sum_below (λ k. sum_below (cost k) (tasks_of p.arrays (op_of p k))) (length p.ops)
+  spent_once = sum_of_first (λ k. sum_of_first (cost k) (tasks_of p.arrays (op_of p k))) (length p.ops)
 
   -- one start more of one task
   pub spent_more : (a b : ℕ → ℕ → ℕ) (op task : ℕ) → IsTask p op task → b op task ≡ a op task + 1
@@ -51,7 +51,7 @@ module _ (p : PlanView) (cost : ℕ → ℕ → ℕ) where
   -- at most so many of each
   pub spent_few : (a : ℕ → ℕ → ℕ) (most : ℕ) → ((op task : ℕ) → IsTask p op task → a op task ≤ most) → spent a ≤ most * spent_once
   spent_few a most few =
-      sum_times (spent_in a) (λ k. sum_below (cost k) (tasks_of p.arrays (op_of p k))) most (length p.ops)
+      sum_times (spent_in a) (λ k. sum_of_first (cost k) (tasks_of p.arrays (op_of p k))) most (length p.ops)
       (λ k low. sum_times (λ t. a k t * cost k t) (cost k) most (tasks_of p.arrays (op_of p k))
       (λ t below. let more = mul-le-mul_left (cost k t) (few k t (record { operation = low; number = below })) in omega (arith, more)))
 

@@ -7,7 +7,7 @@ use Rattle.cu_store.specs.Steps.{Shown, NoChange, Steps}
 use Rattle.cu_op.specs.PlanView.{PlanView}
 use Rattle.cu_op.specs.Schedule.{op_of}
 use Rattle.cu_op.specs.Walks.{written_chunks}
-use Rattle.cu_work.specs.Calls.{sum_below}
+use Rattle.cu_work.specs.Calls.{sum_of_first}
 use Rattle.cu_work.specs.Order.{task_keys}
 use Rattle.cu_work.specs.World.{IsStored}
 use Rattle.cu_work.specs.declared.find.FindFault.{FindFault}
@@ -18,23 +18,23 @@ use Rattle.cu_work.specs.declared.part.PartFault.{PartFault}
 use Rattle.cu_work.specs.declared.part.PartFault.TheVariants.{Failed, NotReady, NoMemory}
 
 -- the tasks of a part are looked at, with so many calls for a key, from a first moment on
-pub record Search : Type 0 where
+pub record Asking : Type 0 where
   pub plan : PlanView
   pub part : Part
   pub tries : ℕ
   pub start : Shown
 
-abbrev pub search_of : PlanView → Part → ℕ → Shown → Search
-search_of p q tries start = record { plan = p; part = q; tries = tries; start = start }
+abbrev pub asking_of : PlanView → Part → ℕ → Shown → Asking
+asking_of p q tries start = record { plan = p; part = q; tries = tries; start = start }
 
 -- ---- the keys
 
 -- how many chunks the first n tasks of the part write
 abbrev pub own_chunks : PlanView → Part → ℕ → ℕ
-own_chunks p q n = sum_below (λ i. length (written_chunks p.arrays (op_of p q.op) (q.from + i))) n
+own_chunks p q n = sum_of_first (λ i. length (written_chunks p.arrays (op_of p q.op) (q.from + i))) n
 
 -- a made chunk that a task of the part reads which lacked a chunk at first
-abbrev pub IsSoughtInput : Search → List ℕ → Type 0
+abbrev pub IsSoughtInput : Asking → List ℕ → Type 0
 IsSoughtInput s key = (task : ℕ) × IsInPart s.part task × LacksChunk s.plan s.part.op task s.start
     × IsMadeInput s.plan s.part.op task key
 
@@ -45,7 +45,7 @@ AllDiffer (k ∷ ks) = (Contains ks k → ⊥) × AllDiffer ks
 
 -- So many keys of chunks that tasks write were asked for, and besides these inputs, each key at most
 -- `tries` times.
-pub record HasAsked (s : Search) (own : ℕ) (now : Shown) : Type 0 where
+pub record HasAsked (s : Asking) (own : ℕ) (now : Shown) : Type 0 where
   pub inputs : List (List ℕ)
   pub differ : AllDiffer inputs
   pub sought : All (IsSoughtInput s) inputs
@@ -75,7 +75,7 @@ AreReadyBefore p q task shown = (other : ℕ) (held : Contents) → q.from ≤ o
 
 -- Why no task was started: all calls for a key failed; a task that lacked a chunk lacked an input, the
 -- first that did; or memory was wanting.
-abbrev pub IsUnstarted : Search → Shown → PartFault → Type 0
+abbrev pub IsUnstarted : Asking → Shown → PartFault → Type 0
 IsUnstarted s now (Failed key) = Rose s.tries s.start.faults now.faults
     × (((task : ℕ) × IsInPart s.part task × Contains (task_keys s.plan s.part.op task) key) ⊎ IsSoughtInput s key)
 IsUnstarted s now (NotReady task) = IsInPart s.part task × LacksChunk s.plan s.part.op task s.start
@@ -91,7 +91,7 @@ has_key (k ∷ ks) key = has_key ks key || bytes_eq k key
 
 -- The same, where at least one call was made for each of the chunks that tasks write, the inputs are
 -- told by a test, and each of them is held.
-pub record IsAsking (s : Search) (own : ℕ) (known : List ℕ → Bool) (now : Shown) : Type 0 where
+pub record IsAsking (s : Asking) (own : ℕ) (known : List ℕ → Bool) (now : Shown) : Type 0 where
   pub inputs : List (List ℕ)
   pub same : (key : List ℕ) → known key ≡ has_key inputs key
   pub differ : AllDiffer inputs
@@ -100,13 +100,13 @@ pub record IsAsking (s : Search) (own : ℕ) (known : List ℕ → Bool) (now : 
   pub held : All (IsHeldIn now.held) inputs
 
 -- asking goes on where the answer is yes, and has ended else
-abbrev pub WentOn : {E : Type 0} → Search → ℕ → (List ℕ → Bool) → Shown → Result Bool E → Type 0
-WentOn s own known now (Ok true) = IsAsking s own known now
-WentOn s own known now (Ok false) = HasAsked s own now
-WentOn s own known now (Err e) = HasAsked s own now
+abbrev pub AskedOn : {E : Type 0} → Asking → ℕ → (List ℕ → Bool) → Shown → Result Bool E → Type 0
+AskedOn s own known now (Ok true) = IsAsking s own known now
+AskedOn s own known now (Ok false) = HasAsked s own now
+AskedOn s own known now (Err e) = HasAsked s own now
 
 -- the same where it goes on by either answer
-abbrev pub KeptOn : {E : Type 0} → Search → ℕ → (List ℕ → Bool) → Shown → Result Bool E → Type 0
+abbrev pub KeptOn : {E : Type 0} → Asking → ℕ → (List ℕ → Bool) → Shown → Result Bool E → Type 0
 KeptOn s own known now (Ok b) = IsAsking s own known now
 KeptOn s own known now (Err e) = HasAsked s own now
 
@@ -116,12 +116,12 @@ IsChoice p k task start now true = LacksChunk p k task start × HasInputs p k ta
 IsChoice p k task start now false = (held : Contents) → now.held ≡ Some held → IsStored p held k task
 
 -- what is answered where asking ended so
-abbrev pub fault_of : FindFault → PartFault
-fault_of (find.Failed key) = Failed key
-fault_of find.NoMemory = NoMemory
+abbrev pub look_up_fault : FindFault → PartFault
+look_up_fault (find.Failed key) = Failed key
+look_up_fault find.NoMemory = NoMemory
 
 -- why a task can't be chosen or passed
-abbrev pub IsChoiceFault : Search → ℕ → Shown → PartFault → Type 0
+abbrev pub IsChoiceFault : Asking → ℕ → Shown → PartFault → Type 0
 IsChoiceFault s task now (NotReady number) = (number ≡ task) × LacksChunk s.plan s.part.op task s.start
     × LacksInput s.plan s.part.op task s.start
 IsChoiceFault s task now fault = IsUnstarted s now fault
@@ -131,6 +131,6 @@ abbrev pub IsAbsent : List ℕ → Shown → Type 0
 IsAbsent key shown = (held : Contents) → shown.held ≡ Some held → held key ≡ None
 
 -- all calls for this key, or for that of a made chunk that the task reads, failed
-abbrev pub IsInputFault : ℕ → Shown × Shown → (List ℕ → Type 0) → FindFault → Type 0
-IsInputFault tries shown IsOne (find.Failed key) = IsOne key × Rose tries shown.0.faults shown.1.faults
-IsInputFault tries shown IsOne find.NoMemory = Unit {0}
+abbrev pub IsLookUpFault : ℕ → Shown × Shown → (List ℕ → Type 0) → FindFault → Type 0
+IsLookUpFault tries shown IsOne (find.Failed key) = IsOne key × Rose tries shown.0.faults shown.1.faults
+IsLookUpFault tries shown IsOne find.NoMemory = Unit {0}

@@ -16,7 +16,7 @@ use Rattle.cu_run_law.specs.Left.{IsLeft}
 use Rattle.cu_run_law.specs.Pieces.{chunks_alone, HoldsTask}
 use Rattle.cu_table.specs.declared.state.TaskId.{TaskId}
 use Rattle.cu_task.specs.Task.{calls_of}
-use Rattle.cu_work.specs.Calls.{sum_below}
+use Rattle.cu_work.specs.Calls.{sum_of_first}
 use Rattle.cu_work.specs.Drive.{IsInputKey}
 use Rattle.cu_work.specs.Asked.{IsChosenAt}
 use Rattle.cu_work.specs.Part.{TaskPut}
@@ -81,10 +81,10 @@ ChosenPut p q chosen first key value = (i : ℕ) × IsChosenAt chosen i × TaskP
 
 -- how many of the first n tasks are chosen, and the calls of each made once
 abbrev pub chosen_below : List Bool → ℕ → ℕ
-chosen_below chosen n = sum_below (λ i. if slice_index_or chosen i false then 1 else 0) n
+chosen_below chosen n = sum_of_first (λ i. if slice_index_or chosen i false then 1 else 0) n
 
 abbrev pub chosen_calls : PlanView → Part → List Bool → ℕ → ℕ
-chosen_calls p q chosen n = sum_below (λ i. if slice_index_or chosen i false then calls_of p q.op (q.from + i) else 0) n
+chosen_calls p q chosen n = sum_of_first (λ i. if slice_index_or chosen i false then calls_of p q.op (q.from + i) else 0) n
 
 -- the chunks of the chosen ones among the first n tasks hold their values
 abbrev pub HoldsChosen : PlanView → Part → List Bool → ℕ → Elements → Shown → Type 0
@@ -92,8 +92,8 @@ HoldsChosen p q chosen n env shown = (i : ℕ) → i < n → IsChosenAt chosen i
 
 -- Each chosen one was started once, and once more for each failure; each failed at most as often as it
 -- is tried again, and the count of faults rose by each failure.
-abbrev pub AreStarts : ℕ → List Bool → ℕ → ℕ × ℕ → PartCounts → Type 0
-AreStarts retries chosen n faults c = (c.starts ≡ c.failures + chosen_below chosen n)
+abbrev pub AreTaskStarts : ℕ → List Bool → ℕ → ℕ × ℕ → PartCounts → Type 0
+AreTaskStarts retries chosen n faults c = (c.starts ≡ c.failures + chosen_below chosen n)
     × (c.failures ≤ retries * chosen_below chosen n) × Rose c.failures faults.0 faults.1
 
 -- The chosen ones among the first n tasks were run, from a first moment on.

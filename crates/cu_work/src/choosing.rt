@@ -9,8 +9,8 @@ ghost use Rattle.cu_op.specs.Arrays.{maker_at};
 ghost use Rattle.cu_op.specs.Cells.{IsChunk};
 ghost use Rattle.cu_op.specs.Schedule.{op_of, key_of};
 ghost use Rattle.cu_op.specs.Walks.{read_chunks, written_chunks};
-ghost use Rattle.cu_work.specs.Asked.{AreChosen, HasAsked, IsAsking, IsInputFault, IsUnstarted, WentOn, KeptOn, IsAbsent, IsChoice, IsChoiceFault, fault_of, own_chunks, search_of};
-ghost use Rattle.cu_work.specs.Ended.{count_of};
+ghost use Rattle.cu_work.specs.Asked.{AreChosen, HasAsked, IsAsking, IsLookUpFault, IsUnstarted, AskedOn, KeptOn, IsAbsent, IsChoice, IsChoiceFault, look_up_fault, own_chunks, asking_of};
+ghost use Rattle.cu_work.specs.Ended.{count_of_part};
 ghost use Rattle.cu_work.specs.Part.{IsInPart, IsPartOf, IsMadeInput, HasInputs, LacksChunk, LacksInput};
 
 use crate::find::{FindFault, find_task};
@@ -48,12 +48,12 @@ fn ask_input<D: Depot>(
     requires within { IsInPart part.now task }
     requires made { IsMadeInput plan.now part.now.op task key.now }
     ensures asked { (start : Shown) (own : ℕ) → LacksChunk plan.now part.now.op task start
-        → IsAsking (search_of plan.now part.now (retries + 1) start) own (contains_text known.old) (D.shown depot.old)
-        → WentOn (search_of plan.now part.now (retries + 1) start) own (contains_text known.new) (D.shown depot.new) result
+        → IsAsking (asking_of plan.now part.now (retries + 1) start) own (contains_text known.old) (D.shown depot.old)
+        → AskedOn (asking_of plan.now part.now (retries + 1) start) own (contains_text known.new) (D.shown depot.new) result
         × IfOk result (λ held. IsTrue held → IsHeldIn (D.shown depot.new).held key.now) }
     ensures absent { IfOk result (λ held. held ≡ false → IsAbsent key.now (D.shown depot.old)) }
     ensures step { Steps NoChange 0 last_count (D.shown depot.old) (D.shown depot.new) }
-    ensures fault { IfErr result (IsInputFault (retries + 1) (D.shown depot.old, D.shown depot.new) (λ k. k ≡ key.now)) }
+    ensures fault { IfErr result (IsLookUpFault (retries + 1) (D.shown depot.old, D.shown depot.new) (λ k. k ≡ key.now)) }
 {
     if known.contains(key.text()) {
         return Ok(true);
@@ -84,13 +84,13 @@ fn ask_cell<D: Depot>(
     requires chunk { IsChunk plan.now.arrays cell.now }
     requires read { Contains (read_chunks plan.now.arrays (op_of plan.now part.now.op) task) cell.now }
     ensures asked { (start : Shown) (own : ℕ) → LacksChunk plan.now part.now.op task start
-        → IsAsking (search_of plan.now part.now (retries + 1) start) own (contains_text known.old) (D.shown depot.old)
-        → WentOn (search_of plan.now part.now (retries + 1) start) own (contains_text known.new) (D.shown depot.new) result
+        → IsAsking (asking_of plan.now part.now (retries + 1) start) own (contains_text known.old) (D.shown depot.old)
+        → AskedOn (asking_of plan.now part.now (retries + 1) start) own (contains_text known.new) (D.shown depot.new) result
         × IfOk result (λ held. IsTrue held → maker_at plan.now.arrays cell.now.array ≢ None
         → IsHeldIn (D.shown depot.new).held (key_of plan.now.arrays cell.now)) }
     ensures lacking { IfOk result (λ held. held ≡ false → LacksInput plan.now part.now.op task (D.shown depot.old)) }
     ensures step { Steps NoChange 0 last_count (D.shown depot.old) (D.shown depot.new) }
-    ensures fault { IfErr result (IsInputFault (retries + 1) (D.shown depot.old, D.shown depot.new) (IsMadeInput plan.now part.now.op task)) }
+    ensures fault { IfErr result (IsLookUpFault (retries + 1) (D.shown depot.old, D.shown depot.new) (IsMadeInput plan.now part.now.op task)) }
 {
     if plan.array(cell.array).maker.is_none() {
         return Ok(true);
@@ -121,12 +121,12 @@ fn ask_inputs<D: Depot>(
     requires part { IsPartOf plan.now part.now }
     requires within { IsInPart part.now task }
     ensures asked { (start : Shown) (own : ℕ) → LacksChunk plan.now part.now.op task start
-        → IsAsking (search_of plan.now part.now (retries + 1) start) own (contains_text known.old) (D.shown depot.old)
-        → WentOn (search_of plan.now part.now (retries + 1) start) own (contains_text known.new) (D.shown depot.new) result
+        → IsAsking (asking_of plan.now part.now (retries + 1) start) own (contains_text known.old) (D.shown depot.old)
+        → AskedOn (asking_of plan.now part.now (retries + 1) start) own (contains_text known.new) (D.shown depot.new) result
         × IfOk result (λ all. IsTrue all → HasInputs plan.now part.now.op task (D.shown depot.new).held) }
     ensures lacking { IfOk result (λ all. all ≡ false → LacksInput plan.now part.now.op task (D.shown depot.old)) }
     ensures step { Steps NoChange 0 last_count (D.shown depot.old) (D.shown depot.new) }
-    ensures fault { IfErr result (IsInputFault (retries + 1) (D.shown depot.old, D.shown depot.new) (IsMadeInput plan.now part.now.op task)) }
+    ensures fault { IfErr result (IsLookUpFault (retries + 1) (D.shown depot.old, D.shown depot.new) (IsMadeInput plan.now part.now.op task)) }
 {
     for cell in inputs(plan, part.op, task) {
         match ask_cell(alloc, plan, depot, part, task, &cell, known, retries) {
@@ -152,12 +152,12 @@ fn choose_task<D: Depot>(
     requires part { IsPartOf plan.now part.now }
     requires within { IsInPart part.now task }
     ensures asked { (start : Shown) (own : ℕ)
-        → IsAsking (search_of plan.now part.now (retries + 1) start) own (contains_text known.old) (D.shown depot.old)
-        → KeptOn (search_of plan.now part.now (retries + 1) start)
+        → IsAsking (asking_of plan.now part.now (retries + 1) start) own (contains_text known.old) (D.shown depot.old)
+        → KeptOn (asking_of plan.now part.now (retries + 1) start)
         (own + length (written_chunks plan.now.arrays (op_of plan.now part.now.op) task))
         (contains_text known.new) (D.shown depot.new) result
         × IfOk result (IsChoice plan.now part.now.op task start (D.shown depot.new))
-        × IfErr result (IsChoiceFault (search_of plan.now part.now (retries + 1) start) task (D.shown depot.new)) }
+        × IfErr result (IsChoiceFault (asking_of plan.now part.now (retries + 1) start) task (D.shown depot.new)) }
     ensures step { Steps NoChange 0 last_count (D.shown depot.old) (D.shown depot.new) }
 {
     match find_task(plan, depot, part.op, task, retries) {
@@ -174,7 +174,7 @@ fn choose_task<D: Depot>(
 
 /// Why no task was started, where asking ended so.
 fn fault_of(fault: FindFault) -> PartFault
-    ensures { result ≡ fault_of fault }
+    ensures { result ≡ look_up_fault fault }
 {
     match fault {
         FindFault::Failed(key) => PartFault::Failed(key),
@@ -191,11 +191,11 @@ pub(crate) fn choose_tasks<D: Depot>(
     retries: u32,
 ) -> Result<Vec<bool>, PartFault>
     requires part { IsPartOf plan.now part.now }
-    ensures whole { IfOk result (λ chosen. length chosen.items ≡ count_of part.now) }
+    ensures whole { IfOk result (λ chosen. length chosen.items ≡ count_of_part part.now) }
     ensures chosen { IfOk result (λ chosen. AreChosen plan.now part.now (D.shown depot.old, D.shown depot.new) chosen.items) }
-    ensures asked { HasAsked (search_of plan.now part.now (retries + 1) (D.shown depot.old)) (own_chunks plan.now part.now (count_of part.now)) (D.shown depot.new) }
-    ensures each { IfOk result (λ chosen. Steps NoChange (own_chunks plan.now part.now (count_of part.now)) last_count (D.shown depot.old) (D.shown depot.new)) }
-    ensures fault { IfErr result (IsUnstarted (search_of plan.now part.now (retries + 1) (D.shown depot.old)) (D.shown depot.new)) }
+    ensures asked { HasAsked (asking_of plan.now part.now (retries + 1) (D.shown depot.old)) (own_chunks plan.now part.now (count_of_part part.now)) (D.shown depot.new) }
+    ensures each { IfOk result (λ chosen. Steps NoChange (own_chunks plan.now part.now (count_of_part part.now)) last_count (D.shown depot.old) (D.shown depot.new)) }
+    ensures fault { IfErr result (IsUnstarted (asking_of plan.now part.now (retries + 1) (D.shown depot.old)) (D.shown depot.new)) }
 {
     let mut known = HashSet::new(alloc);
     let Ok(mut chosen) = Vec::with_capacity(alloc, (part.to - part.from) as usize) else {

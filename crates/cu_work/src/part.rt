@@ -2,7 +2,7 @@
 ghost use Rattle.std.specs.Prelude.{◌≤◌, ◌+◌};
 ghost use Rattle.cu_store.specs.Faults.{last_count};
 ghost use Rattle.cu_store.specs.Steps.{Steps};
-ghost use Rattle.cu_work.specs.Asked.{search_of};
+ghost use Rattle.cu_work.specs.Asked.{asking_of};
 ghost use Rattle.cu_work.specs.Ended.{HasCalled, IsPartEnd};
 ghost use Rattle.cu_work.specs.Part.{IsPartOf, PartPut};
 
@@ -77,9 +77,9 @@ pub fn run_part<D: Depot>(
 ) -> Result<PartCounts, PartFault>
     requires part { IsPartOf plan.now part.now }
     requires few { retries ≤ 8 }
-    ensures end { IsPartEnd (search_of plan.now part.now (retries + 1) (D.shown depot.old)) (D.shown depot.new) result }
+    ensures end { IsPartEnd (asking_of plan.now part.now (retries + 1) (D.shown depot.old)) (D.shown depot.new) result }
     ensures step { Steps (PartPut plan.now part.now (D.shown depot.old)) 0 last_count (D.shown depot.old) (D.shown depot.new) }
-    ensures calls { HasCalled (search_of plan.now part.now (retries + 1) (D.shown depot.old)) (D.shown depot.new) }
+    ensures calls { HasCalled (asking_of plan.now part.now (retries + 1) (D.shown depot.old)) (D.shown depot.new) }
 {
     range_law();
     // that the plan is sound is told by the plan alone

@@ -8,9 +8,9 @@ ghost use Rattle.cu_run_law.specs.Left.{IsLeft};
 ghost use Rattle.cu_run_law.specs.Pieces.{chunks_alone, HoldsTask};
 ghost use Rattle.cu_task.specs.Task.{TaskChange, HoldsCells, IsTaskReady, IsTaskFault, calls_of};
 ghost use Rattle.cu_work.specs.Asked.{AreChosen};
-ghost use Rattle.cu_work.specs.Ended.{count_of};
+ghost use Rattle.cu_work.specs.Ended.{count_of_part};
 ghost use Rattle.cu_work.specs.Part.{HasInputs, IsPartOf, TaskPut};
-ghost use Rattle.cu_work.specs.Tried.{AreStarts, ChosenPut, HaveRun, IsMemoryOf, IsStoppedBy, IsTried, chosen_calls, ends_tries, task_fault, task_id};
+ghost use Rattle.cu_work.specs.Tried.{AreTaskStarts, ChosenPut, HaveRun, IsMemoryOf, IsStoppedBy, IsTried, chosen_calls, ends_tries, task_fault, task_id};
 
 use crate::part::{Part, PartCounts, PartFault};
 use crate::rooms::{task_bytes, task_words};
@@ -142,14 +142,14 @@ pub(crate) fn run_chosen<D: Depot>(
     retries: u32,
 ) -> Result<PartCounts, PartFault>
     requires part { IsPartOf plan.now part.now }
-    requires whole { length chosen.now ≡ count_of part.now }
+    requires whole { length chosen.now ≡ count_of_part part.now }
     requires few { retries ≤ 8 }
     requires ready { (old : Shown) × AreChosen plan.now part.now (old, D.shown depot.old) chosen.now }
     requires memory { IsMemoryOf plan.now part.now.op memory.old }
-    ensures run { OnOk result (HaveRun plan.now part.now chosen.now retries (count_of part.now) (D.shown depot.old, D.shown depot.new)) }
+    ensures run { OnOk result (HaveRun plan.now part.now chosen.now retries (count_of_part part.now) (D.shown depot.old, D.shown depot.new)) }
     ensures step { Steps (ChosenPut plan.now part.now chosen.now (D.shown depot.old)) 0
-        ((retries + 1) * chosen_calls plan.now part.now chosen.now (count_of part.now)) (D.shown depot.old) (D.shown depot.new) }
-    ensures starts { IfOk result (AreStarts retries chosen.now (count_of part.now) ((D.shown depot.old).faults, (D.shown depot.new).faults)) }
+        ((retries + 1) * chosen_calls plan.now part.now chosen.now (count_of_part part.now)) (D.shown depot.old) (D.shown depot.new) }
+    ensures starts { IfOk result (AreTaskStarts retries chosen.now (count_of_part part.now) ((D.shown depot.old).faults, (D.shown depot.new).faults)) }
     ensures stopped { IfErr result (IsStoppedBy plan.now part.now chosen.now (retries + 1) (D.shown depot.old, D.shown depot.new)) }
 {
     range_law();

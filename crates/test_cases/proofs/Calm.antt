@@ -13,7 +13,7 @@ use Rattle.cu_top.specs.Quiet.{IsCalmFor, IsCalm, run_of_job}
 use Rattle.cu_name.specs.Name.{is_name}
 use Rattle.cu_words.specs.Line.{LinePart, line_parts, positionals_given}
 use Rattle.cu_words.specs.Options.{command_named, option_names, positional_count}
-use Rattle.cu_words.specs.Words.{GivenLine, demo_size, line_after, line_given, line_in, line_with, numbers_of, option_values}
+use Rattle.cu_words.specs.Words.{GivenLine, demo_size, line_after, line_given, line_in, line_with, numbers_for, option_values}
 use Rattle.cu_words.specs.declared.line.Numbers.{Numbers}
 use Rattle.cu_words.specs.declared.options.CommandName.{CommandName}
 use Rattle.cu_words.specs.declared.options.CommandName.TheVariants as name
@@ -141,7 +141,7 @@ line_of_with command words (Some numbers) = at (nat_eq (length words) (positiona
 
 line_of_in : (command : CommandName) (parts : Option (List LinePart)) → IsLineOf command (line_in command parts)
 line_of_in command None = tt
-line_of_in command (Some parts) = line_of_with command (positionals_given parts) (numbers_of command (option_values parts))
+line_of_in command (Some parts) = line_of_with command (positionals_given parts) (numbers_for command (option_values parts))
 
 after_only : (named : Option CommandName) (words : List (List ℕ)) → answer_goes (command_by (line_after named words)) ≡ true → named_goes named ≡ true
 after_only None words is = is

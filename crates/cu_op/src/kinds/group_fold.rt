@@ -1,7 +1,7 @@
 //! The regions that a fold by labels reads.
 ghost use Rattle.std.specs.Prelude.{◌≡◌, ◌^◌, ◌*◌, ◌<◌, ◌∷◌, [], length, slice_index};
 ghost use Rattle.cu_op.specs.Arrays.{grid_at};
-ghost use Rattle.cu_op.specs.Grouping.{end_of, first_of, first_place, grouped_walk, labels_walk, IsPartRegion};
+ghost use Rattle.cu_op.specs.Grouping.{end_place_of, first_place_of, first_place, grouped_walk, labels_walk, IsPartRegion};
 
 use crate::layout::{ArrayInfo, grid_of};
 use crate::walks::Walk;
@@ -52,8 +52,8 @@ pub(crate) fn labels_walk(
 /// The places on the axis that the parts of a region of the result have: the first, and one past the last.
 fn part_bounds(grid: &Grid, axis: u32, region: &Region) -> (u64, u64)
     requires { IsPartRegion grid.now axis region.now.lo region.now.hi }
-    ensures first { result.0 ≡ first_of grid.now axis region.now.lo }
-    ensures end { result.1 ≡ end_of grid.now axis region.now.hi }
+    ensures first { result.0 ≡ first_place_of grid.now axis region.now.lo }
+    ensures end { result.1 ≡ end_place_of grid.now axis region.now.hi }
 {
     let rank = grid.shape().rank();
     let first = first_place(grid, axis, region.lo.at_or(rank, 0));

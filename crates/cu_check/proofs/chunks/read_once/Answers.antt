@@ -1,7 +1,7 @@
 use Rattle.std.proofs.Common.{◌≡◌}
 use Rattle.cu_region.specs.Reading.{HasChunk, IsChunkReadFault, bytes_of, key_at}
 use Rattle.cu_command.proofs.SeenLemmas.{stepped}
-use Rattle.cu_check.specs.Chunks.{HasHeldChunk, IsPartFault}
+use Rattle.cu_check.specs.Chunks.{HasHeldChunk, IsReadOnceFault}
 use Rattle.cu_check.proofs.ChunkReads.{on_ok, if_err, held_chunk, part_fault}
 use Rattle.cu_check.proofs.Layouts.{small_coordinate}
 use Rattle.cu_check.proofs.chunks.read_once.Goals as goal
@@ -23,7 +23,7 @@ pub returns-clause-cause : goal.returns-clause-cause
 returns-clause-cause g c =
     if_err c.read_chunk.result
     (IsChunkReadFault (g.D.Depot.shown c.args.depot.now) (g.D.Depot.shown c.read_chunk.new.access) (λ key. key ≡ key_at c.args.info.now c.args.coord.now) (bytes_of c.args.info.now.layout))
-    (IsPartFault 1 (g.D.Depot.shown c.args.depot.now) (g.D.Depot.shown c.read_chunk.new.access) c.args.info.now.layout (key_at c.args.info.now c.args.coord.now))
+    (IsReadOnceFault 1 (g.D.Depot.shown c.args.depot.now) (g.D.Depot.shown c.read_chunk.new.access) c.args.info.now.layout (key_at c.args.info.now c.args.coord.now))
     (part_fault (g.D.Depot.shown c.args.depot.now) (g.D.Depot.shown c.read_chunk.new.access) c.args.info.now.layout (key_at c.args.info.now c.args.coord.now))
     c.read_chunk.ensures.cause
 

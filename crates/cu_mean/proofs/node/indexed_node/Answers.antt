@@ -5,7 +5,7 @@ use Rattle.cu_typing.specs.Joined.{arrays_of}
 use Rattle.cu_expr.specs.Typing.{argument_of}
 use Rattle.cu_semantics.specs.Argument.{source_shape}
 use Rattle.cu_semantics.specs.View.{indexed}
-use Rattle.cu_mean.specs.Indexing.{HasStep, IsFoundIndex, IsOutside}
+use Rattle.cu_mean.specs.Indexing.{HasStep, IsFoundIndex, IsOutsideEach}
 use Rattle.cu_mean.proofs.IndexTypes.{index_steps}
 use Rattle.cu_mean.proofs.ReadyNodes.{outside_source}
 use Rattle.cu_mean.proofs.node.indexed_node.Goals as goal
@@ -22,6 +22,6 @@ returns-in-None c env k e =
     let items = c.as_slice.ensures in
     let same : indexed c.as_slice.result.now c.source_dims-shape.result c.args.scope.now.idx.now ≡ indexed c.args.items.now (source_shape infos c.args.args.now 0) c.args.scope.now.idx.now =
     λ i. indexed (items i) (shape i) c.args.scope.now.idx.now in
-    let none : IsOutside (indexed c.as_slice.result.now c.source_dims-shape.result c.args.scope.now.idx.now) =
+    let none : IsOutsideEach (indexed c.as_slice.result.now c.source_dims-shape.result c.args.scope.now.idx.now) =
     subst (λ found. IsFoundIndex (indexed c.as_slice.result.now c.source_dims-shape.result c.args.scope.now.idx.now) found) c.in-None.is c.indexed.ensures in
-    sym (outside_source infos c.args.scope.now.plains.now c.args.args.now (indexed c.args.items.now (source_shape infos c.args.args.now 0) c.args.scope.now.idx.now) c.requires.ready.kept c.requires.ready.before (subst IsOutside same none))
+    sym (outside_source infos c.args.scope.now.plains.now c.args.args.now (indexed c.args.items.now (source_shape infos c.args.args.now 0) c.args.scope.now.idx.now) c.requires.ready.kept c.requires.ready.before (subst IsOutsideEach same none))

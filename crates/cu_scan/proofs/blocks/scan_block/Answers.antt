@@ -1,7 +1,7 @@
 use Rattle.std.proofs.Common.{◌≡◌, ◌+◌, ◌*◌, ◌≤◌, suc, length, subst, sym, ◌∙◌, arith}
 use Rattle.cu_num.specs.Dtype.{size_of}
 use Rattle.cu_pairs.proofs.Parts.{size_positive}
-use Rattle.cu_scan.specs.Scanned.{HasRows}
+use Rattle.cu_scan.specs.Scanned.{HasSummedRows}
 use Rattle.cu_scan.proofs.RowSums.{row_small, rows_reach, rows_first, rows_more}
 use Rattle.cu_scan.proofs.blocks.scan_block.Goals as goal
 
@@ -51,7 +51,7 @@ loop-done-preserved c =
     let next : suc j ≡ j + 1 = omega arith in
     record {
       same_length = c.next_row.ensures.same_length ∙ inv.same_length;
-      summed = subst (λ (k : _). HasRows c.args.t c.args.acc c.args.rows c.args.inner c.args.at
+      summed = subst (λ (k : _). HasSummedRows c.args.t c.args.acc c.args.rows c.args.inner c.args.at
           (suc k) c.args.input.now c.args.carry.now new) next
           (rows_more c.args.t c.args.acc c.args.rows c.args.inner c.args.at j c.args.input.now c.args.carry.now c.loop-done.out new c.requires.acc inv.summed c.next_row.ensures.adds c.next_row.ensures.keeps);
       keeps = λ r q less b. c.next_row.ensures.keeps r q (omega arith) b ∙ inv.keeps r q less b;

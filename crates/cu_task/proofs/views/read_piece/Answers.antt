@@ -1,14 +1,14 @@
 use Rattle.std.proofs.Common.{sym, ◌∙◌}
 use Rattle.std.proofs.lemmas.Bool.{true≢false}
 use Rattle.cu_task.specs.ViewJobs.{view_task_of}
-use Rattle.cu_task.specs.Views.{IsInPart}
+use Rattle.cu_task.specs.Views.{IsOfChunk}
 use Rattle.cu_task.proofs.ViewChunks.{needed, calls_unneeded, calls_needed}
 use Rattle.cu_task.proofs.ViewElements.{takes_nothing}
 use Rattle.cu_task.proofs.views.read_piece.Goals as goal
 
 pub returns-then-not-is_needed-clause-takes : goal.returns-then-not-is_needed-clause-takes
 returns-then-not-is_needed-clause-takes g c told known =
-    takes_nothing (view_task_of c.args.chunk.now.job.now) c.args.chunk.now.source (IsInPart (view_task_of c.args.chunk.now.job.now) c.args.chunk.now.source c.args.chunk.now.coord) told c.args.output.now
+    takes_nothing (view_task_of c.args.chunk.now.job.now) c.args.chunk.now.source (IsOfChunk (view_task_of c.args.chunk.now.job.now) c.args.chunk.now.source c.args.chunk.now.coord) told c.args.output.now
     (λ idx i w o part. true≢false (sym (c.is_needed.ensures.needed (needed (view_task_of c.args.chunk.now.job.now) c.args.chunk.now.source c.args.chunk.now.coord (record { idx = idx; i = i; within = w; origin = o; part = part }))) ∙ c.if-not-is_needed.true))
 
 pub returns-then-not-is_needed-clause-step : goal.returns-then-not-is_needed-clause-step

@@ -7,7 +7,7 @@ use Rattle.cu_op.specs.declared.layout.ArrayInfo.{ArrayInfo}
 use Rattle.cu_region.proofs.SteadyKeys.{first_contains, rest_contains}
 use Rattle.cu_region.proofs.StoredReads.{fault_more}
 use Rattle.cu_task.specs.ViewJobs.{view_task_of, source_room}
-use Rattle.cu_task.specs.Views.{source_in, may_read, IsSourceKey, IsInPart}
+use Rattle.cu_task.specs.Views.{source_in, may_read, IsSourceKey, IsOfChunk}
 use Rattle.cu_task.proofs.JobViews.{fitting}
 use Rattle.cu_task.proofs.ViewChunks.{CallsSoFar, calls_none_yet, calls_one_more, calls_most, cover_calls, cover_coordinate, all_calls, sure_made}
 use Rattle.cu_task.proofs.ViewElements.{SoFar, so_far_none, so_far_more, so_far_all, takes_before, known_after}
@@ -52,7 +52,7 @@ loop-coord-preserved g c =
           let later = known_after (view_task_of c.args.part.now.job.now) c.args.part.now.source told total c.loop-coord.coord-iterator (g.C.Chunks.shown c.args.access.now) (g.C.Chunks.shown c.loop-coord.access) known c.loop-coord.invariant.calls in
           so_far_more (view_task_of c.args.part.now.job.now) c.args.part.now.source told c.in-Some.coord c.next.new.self c.args.output.now c.loop-coord.output c.read_piece.new.output
           (subst (λ (x : List (List ℕ)). SoFar (view_task_of c.args.part.now.job.now) c.args.part.now.source told x c.args.output.now c.loop-coord.output) e (c.loop-coord.invariant.takes told known))
-          (takes_before (view_task_of c.args.part.now.job.now) (fitting c.args.part.now.job.now c.requires.part.job) c.args.part.now.source (IsInPart (view_task_of c.args.part.now.job.now) c.args.part.now.source c.in-Some.coord) told (g.C.Chunks.shown c.loop-coord.access) later c.loop-coord.output c.read_piece.new.output (c.in_ok-read_piece.ensures.takes later.now later.known));
+          (takes_before (view_task_of c.args.part.now.job.now) (fitting c.args.part.now.job.now c.requires.part.job) c.args.part.now.source (IsOfChunk (view_task_of c.args.part.now.job.now) c.args.part.now.source c.in-Some.coord) told (g.C.Chunks.shown c.loop-coord.access) later c.loop-coord.output c.read_piece.new.output (c.in_ok-read_piece.ensures.takes later.now later.known));
     }
 
 pub returns-clause-takes : goal.returns-clause-takes
