@@ -8,9 +8,9 @@ use Rattle.cu_shape.specs.Index.{product}
 use Rattle.cu_shape.proofs.Places.{product_positive}
 use Rattle.cu_rechunk.specs.Tiles.{Tiles}
 use Rattle.cu_rechunk.proofs.Copies.{planned, room_of, tiles_of}
-use Rattle.cu_copy.specs.Chunks.{chunk_bytes}
 use Rattle.cu_copy.specs.Copies.{IsRechunk, greater_chunk, max_mem, rechunk_need, staging}
 use Rattle.cu_copy.specs.declared.copies.Rechunk.{Rechunk}
+use Rattle.cu_node.specs.Info.{chunk_bytes}
 
 size_positive : (t : Dtype) → 0 < size_of t
 size_positive Bool = omega arith

@@ -1,13 +1,8 @@
 -- The chunks of an array (this project's own rule).
-use Rattle.std.specs.Prelude.{ℕ, ◌*◌}
+use Rattle.std.specs.Prelude.{ℕ}
 use Rattle.cu_node.specs.declared.info.NodeInfo.{NodeInfo}
-use Rattle.cu_num.specs.Dtype.{size_of}
 use Rattle.cu_shape.specs.Counts.{counts_of}
 use Rattle.cu_shape.specs.Index.{product}
-
--- the bytes of a chunk of an array
-abbrev pub chunk_bytes : NodeInfo → ℕ
-chunk_bytes i = product i.chunk * size_of i.dtype
 
 -- the number of an array's chunks; one with an axis of size 0 has none
 abbrev pub chunk_count : NodeInfo → ℕ

@@ -4,12 +4,12 @@ use Rattle.std.specs.Prelude.{◌≡◌, ℕ, ◌+◌, ◌-◌, ◌*◌, ◌/◌
 use Rattle.cu_num.specs.Dtype.{size_of}
 use Rattle.cu_shape.specs.Counts.{counts_of}
 use Rattle.cu_shape.specs.Index.{product}
-use Rattle.cu_node.specs.Info.{IsInfo, info_of}
+use Rattle.cu_node.specs.Info.{IsInfo, info_of, chunk_bytes}
 use Rattle.cu_node.specs.Limited.{is_chunk_within}
 use Rattle.cu_node.specs.declared.info.NodeInfo.{NodeInfo}
 use Rattle.cu_rechunk.specs.Stages.{write_sizes, read_sizes, middle_sizes}
 use Rattle.cu_rechunk.specs.declared.staging.Staging.{Staging}
-use Rattle.cu_copy.specs.Chunks.{chunk_bytes, chunk_count}
+use Rattle.cu_copy.specs.Chunks.{chunk_count}
 use Rattle.cu_copy.specs.declared.copies.CopyCounts.{CopyCounts}
 use Rattle.cu_copy.specs.declared.copies.Rechunk.{Rechunk}
 

@@ -3,9 +3,9 @@
 ghost use Rattle.std.specs.Prelude.{◌≡◌, ◌≤◌, ◌^◌, ◌*◌, true};
 ghost use Rattle.cu_num.specs.Dtype.{size_of};
 ghost use Rattle.cu_shape.specs.Index.{product};
-ghost use Rattle.cu_node.specs.Info.{IsInfo};
+ghost use Rattle.cu_node.specs.Info.{IsInfo, chunk_bytes};
 ghost use Rattle.cu_node.specs.Limited.{is_chunk_within};
-ghost use Rattle.cu_copy.specs.Chunks.{chunk_bytes, chunk_count};
+ghost use Rattle.cu_copy.specs.Chunks.{chunk_count};
 
 use cu_grid::Grid;
 use cu_node::NodeInfo;

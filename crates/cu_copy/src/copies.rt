@@ -3,8 +3,8 @@
 ghost use Rattle.std.specs.Prelude.{◌≡◌, ◌<◌, ◌≤◌, ◌^◌, nat_le, All, IfSome, None, Some, length, if◌then◌else◌};
 ghost use Rattle.cu_shape.specs.Counts.{at_least_one};
 ghost use Rattle.cu_shape.specs.Index.{product};
-ghost use Rattle.cu_copy.specs.Chunks.{chunk_bytes};
 ghost use Rattle.cu_copy.specs.Copies.{IsRechunk, AreRegions, greater_chunk, is_misaligned, max_mem, rechunk_counts, rechunk_need, rechunked, region_count, staged_counts, staging};
+ghost use Rattle.cu_node.specs.Info.{chunk_bytes};
 
 use crate::chunks::{bytes_of, chunk_bytes};
 use cu_grid::Grid;

@@ -20,7 +20,7 @@ use Rattle.cu_form.specs.Form.{args_of}
 use Rattle.cu_form.specs.declared.args.Arg.{Arg}
 use Rattle.cu_node.specs.declared.element_op.ElementOp.{ElementOp}
 use Rattle.cu_form.specs.declared.form.Form.{Form}
-use Rattle.cu_node.specs.Info.{info_at}
+use Rattle.cu_node.specs.Info.{info_at, chunk_bytes}
 use Rattle.cu_node.specs.declared.info.NodeInfo.{NodeInfo}
 use Rattle.cu_typing.specs.Accepted.{IsElementwise}
 use Rattle.cu_expr.specs.Kernel.{aligned_grid, result_grid, loads_from, kernel_of, types_of, function_of}
@@ -30,7 +30,7 @@ use Rattle.cu_typing.specs.declared.argument.Argument.{Argument}
 use Rattle.cu_typing.specs.declared.argument.Argument.TheVariants.{Array, Written}
 use Rattle.cu_expr.specs.Typing.{argument_of}
 use Rattle.cu_copy.specs.Copies.{rechunked}
-use Rattle.cu_need.specs.Chunks.{aligned_bytes, arrays_in, chunk_bytes}
+use Rattle.cu_need.specs.Chunks.{aligned_bytes, arrays_in}
 use Rattle.cu_need.specs.Elementwise.{own_instructions}
 use Rattle.cu_need.specs.Need.{own_need}
 use Rattle.cu_need.specs.Operands.{in_aligned, operands_of}

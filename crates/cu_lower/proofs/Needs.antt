@@ -1,12 +1,11 @@
 -- Each node needs the reserved bytes at least.
 use Rattle.std.proofs.Common.{◌≡◌, ℕ, ◌≤◌, nat_lt, max, Bool, true, false, List, [], ◌∷◌, ap, inl, inr, arith, if◌then◌else◌}
 use Rattle.std.proofs.lemmas.Bool.{cases_Bool}
-use Rattle.cu_copy.specs.Chunks.{chunk_bytes}
 use Rattle.cu_copy.specs.Copies.{rechunked}
 use Rattle.cu_copy.specs.declared.copies.Rechunk.{Rechunk}
 use Rattle.cu_form.specs.Form.{args_of}
 use Rattle.cu_form.specs.declared.form.Form.{Form}
-use Rattle.cu_node.specs.Info.{info_at}
+use Rattle.cu_node.specs.Info.{info_at, chunk_bytes}
 use Rattle.cu_node.specs.declared.info.NodeInfo.{NodeInfo}
 use Rattle.cu_need.specs.Along.{group_need, labels_wanted, sum_axis}
 use Rattle.cu_need.specs.Chunks.{arrays_in}

@@ -13,7 +13,7 @@ use Rattle.cu_op.specs.declared.operation.Op.{Op}
 use Rattle.cu_form.specs.Form.{group_kind}
 use Rattle.cu_form.specs.declared.args.Arg.{Arg}
 use Rattle.cu_form.specs.declared.form.Form.{Form}
-use Rattle.cu_node.specs.Info.{IsInfo, info_at}
+use Rattle.cu_node.specs.Info.{IsInfo, info_at, chunk_bytes}
 use Rattle.cu_node.specs.declared.element_op.ElementOp.{ElementOp}
 use Rattle.cu_node.specs.declared.info.NodeInfo.{NodeInfo}
 use Rattle.cu_need.specs.Counts.{node_cells, own_cells, own_tasks, node_tasks}
@@ -37,7 +37,7 @@ use Rattle.cu_lower_reduce.specs.Partials.{IsSetting}
 use Rattle.cu_lower_reduce.specs.Products.{multiplied, product_steps}
 use Rattle.cu_lower_reduce.specs.Reductions.{folded, merges, reduction_steps, IsReduction}
 use Rattle.cu_lower_reduce.specs.Searches.{pair_merges, pairs_found, search_steps, value_chunk_bytes, IsSearch}
-use Rattle.cu_lower_reduce.specs.Steps.{all_made, grid_of, info_bytes, made_infos, step_tasks, with_merges, with_values, ComeTo}
+use Rattle.cu_lower_reduce.specs.Steps.{all_made, grid_of, made_infos, step_tasks, with_merges, with_values, ComeTo}
 use Rattle.cu_lower_reduce.specs.declared.cumulative.Cumulative.{Cumulative}
 use Rattle.cu_lower_reduce.specs.declared.grouped.Grouped.{Grouped}
 use Rattle.cu_lower_reduce.specs.declared.product.Product.{Product}
@@ -232,22 +232,22 @@ greater first merge more =
     ]
 
 folded_attain : (s : Setting) (x : Reduction) (partial : NodeInfo) (rs : List Round)
-    → Attain (with_merges rs (fold_need s.reserved (info_bytes x.from) (info_bytes x.made)) (merge_need s.reserved s.split_every (info_bytes x.made))) (folded s x partial rs)
+    → Attain (with_merges rs (fold_need s.reserved (chunk_bytes x.from) (chunk_bytes x.made)) (merge_need s.reserved s.split_every (chunk_bytes x.made))) (folded s x partial rs)
 folded_attain s x partial [] = inl (refl, refl)
 folded_attain s x partial (r ∷ rs) =
-    greater (fold_need s.reserved (info_bytes x.from) (info_bytes x.made)) (merge_need s.reserved s.split_every (info_bytes x.made)) _
+    greater (fold_need s.reserved (chunk_bytes x.from) (chunk_bytes x.made)) (merge_need s.reserved s.split_every (chunk_bytes x.made)) _
 
 multiplied_attain : (s : Setting) (x : Product) (partial : NodeInfo) (rs : List Round)
-    → Attain (with_merges rs (product_need s.reserved (info_bytes x.left_info) (info_bytes x.right_info) (info_bytes x.made)) (merge_need s.reserved s.split_every (info_bytes x.made))) (multiplied s x partial rs)
+    → Attain (with_merges rs (product_need s.reserved (chunk_bytes x.left_info) (chunk_bytes x.right_info) (chunk_bytes x.made)) (merge_need s.reserved s.split_every (chunk_bytes x.made))) (multiplied s x partial rs)
 multiplied_attain s x partial [] = inl (refl, refl)
 multiplied_attain s x partial (r ∷ rs) =
-    greater (product_need s.reserved (info_bytes x.left_info) (info_bytes x.right_info) (info_bytes x.made)) (merge_need s.reserved s.split_every (info_bytes x.made)) _
+    greater (product_need s.reserved (chunk_bytes x.left_info) (chunk_bytes x.right_info) (chunk_bytes x.made)) (merge_need s.reserved s.split_every (chunk_bytes x.made)) _
 
 found_attain : (s : Setting) (x : Search) (values places : NodeInfo) (rs : List Round)
-    → Attain (with_merges rs (pair_fold_need s.reserved (info_bytes x.from) (value_chunk_bytes x) (info_bytes x.made)) (pair_merge_need s.reserved s.split_every (value_chunk_bytes x) (info_bytes x.made))) (pairs_found s x values places rs)
+    → Attain (with_merges rs (pair_fold_need s.reserved (chunk_bytes x.from) (value_chunk_bytes x) (chunk_bytes x.made)) (pair_merge_need s.reserved s.split_every (value_chunk_bytes x) (chunk_bytes x.made))) (pairs_found s x values places rs)
 found_attain s x values places [] = inl (refl, refl)
 found_attain s x values places (r ∷ rs) =
-    greater (pair_fold_need s.reserved (info_bytes x.from) (value_chunk_bytes x) (info_bytes x.made)) (pair_merge_need s.reserved s.split_every (value_chunk_bytes x) (info_bytes x.made)) _
+    greater (pair_fold_need s.reserved (chunk_bytes x.from) (value_chunk_bytes x) (chunk_bytes x.made)) (pair_merge_need s.reserved s.split_every (value_chunk_bytes x) (chunk_bytes x.made)) _
 
 -- ---- by the form
 
@@ -329,7 +329,7 @@ matmul_own laws infos options out k args ins first room can long hl hr hm typed 
     behind_own infos options out k (Form.Matmul args) first copies (product_steps s x) (omega (arith, two)) c
     (subst (λ (i : NodeInfo).
     AreComputed
-    (with_merges (product_rounds options.split_every i (info_at infos k)) (product_need options.reserved (info_bytes x.left_info) (info_bytes x.right_info) (info_bytes (info_at infos k))) (merge_need options.reserved options.split_every (info_bytes (info_at infos k))))
+    (with_merges (product_rounds options.split_every i (info_at infos k)) (product_need options.reserved (chunk_bytes x.left_info) (chunk_bytes x.right_info) (chunk_bytes (info_at infos k))) (merge_need options.reserved options.split_every (chunk_bytes (info_at infos k))))
     (chunks_written (product_partial i (info_at infos k)) (product_rounds options.split_every i (info_at infos k)) (info_at infos k))
     (chunks_written (product_partial i (info_at infos k)) (product_rounds options.split_every i (info_at infos k)) (info_at infos k)) (info_at infos k) (product_steps s x)) kept own)
 
@@ -353,7 +353,7 @@ cumulative_other : (s : Setting) (x : Cumulative) → All (λ s. is_copy s.op �
 cumulative_other s x =
     let sums = sums_array x.made x.from x.axis in
     let rs = cumulative_rounds s.split_every x.made x.from x.axis in
-    let alone = scanned_step x None s.first (fold_need s.reserved (info_bytes x.from) (info_bytes x.made)) in
+    let alone = scanned_step x None s.first (fold_need s.reserved (chunk_bytes x.from) (chunk_bytes x.made)) in
     let one = All-cons (λ s. is_copy s.op ≡ false) (last_scan s x sums rs) [] refl (All-nil (λ s. is_copy s.op ≡ false)) in
     let merges = sum_merges s s.first sums rs in
     let carries = sum_carries s x.axis s.first sums rs (first_carry s rs) in
@@ -369,10 +369,10 @@ attain_front need (x ∷ xs) ys (inl here) = inl here
 attain_front need (x ∷ xs) ys (inr more) = inr (attain_front need xs ys more)
 
 -- each carry needs as much
-carries_attain : (s : Setting) (axis source : ℕ) (sums : NodeInfo) (rs : List Round) (next : ℕ) → Attain (carry_need s.reserved s.split_every (info_bytes sums)) (sum_carries s axis source sums rs next)
+carries_attain : (s : Setting) (axis source : ℕ) (sums : NodeInfo) (rs : List Round) (next : ℕ) → Attain (carry_need s.reserved s.split_every (chunk_bytes sums)) (sum_carries s axis source sums rs next)
 carries_attain s axis source sums [] next = inl (refl, refl)
 carries_attain s axis source sums (r ∷ rs) next =
-    attain_front (carry_need s.reserved s.split_every (info_bytes sums)) (sum_carries s axis (source + 1) (merged r sums) rs next) _ (carries_attain s axis (source + 1) (merged r sums) rs next)
+    attain_front (carry_need s.reserved s.split_every (chunk_bytes sums)) (sum_carries s axis (source + 1) (merged r sums) rs next) _ (carries_attain s axis (source + 1) (merged r sums) rs next)
 
 either_attain : (b : Bool) (many one : ℕ) (ms os : List Step) → Attain many ms → Attain one os → Attain (if b then many else one) (if b then ms else os)
 either_attain true many one ms os h k = h
@@ -380,11 +380,11 @@ either_attain false many one ms os h k = k
 
 -- of three needs one is the greatest
 summed_attain : (s : Setting) (x : Cumulative) (sums : NodeInfo) (rs : List Round)
-    → Attain (max (fold_need s.reserved (info_bytes x.from) (info_bytes sums)) (max (carry_need s.reserved s.split_every (info_bytes sums)) (product_need s.reserved (info_bytes x.from) (info_bytes sums) (info_bytes x.made)))) (summed_steps s x sums rs)
+    → Attain (max (fold_need s.reserved (chunk_bytes x.from) (chunk_bytes sums)) (max (carry_need s.reserved s.split_every (chunk_bytes sums)) (product_need s.reserved (chunk_bytes x.from) (chunk_bytes sums) (chunk_bytes x.made)))) (summed_steps s x sums rs)
 summed_attain s x sums rs =
-    let fold = fold_need s.reserved (info_bytes x.from) (info_bytes sums) in
-    let carry = carry_need s.reserved s.split_every (info_bytes sums) in
-    let scan = product_need s.reserved (info_bytes x.from) (info_bytes sums) (info_bytes x.made) in
+    let fold = fold_need s.reserved (chunk_bytes x.from) (chunk_bytes sums) in
+    let carry = carry_need s.reserved s.split_every (chunk_bytes sums) in
+    let scan = product_need s.reserved (chunk_bytes x.from) (chunk_bytes sums) (chunk_bytes x.made) in
     let merges = sum_merges s s.first sums rs in
     let carries = sum_carries s x.axis s.first sums rs (first_carry s rs) in
     let last = last_scan s x sums rs in
@@ -404,7 +404,7 @@ summed_attain s x sums rs =
 
 cumulative_attain : (s : Setting) (x : Cumulative) → Attain (cumulative_need s.reserved s.split_every x.made x.from x.axis) (cumulative_steps s x)
 cumulative_attain s x =
-    either_attain (nat_lt 1 (sums_count x.made x.from x.axis)) _ (fold_need s.reserved (info_bytes x.from) (info_bytes x.made)) _ _
+    either_attain (nat_lt 1 (sums_count x.made x.from x.axis)) _ (fold_need s.reserved (chunk_bytes x.from) (chunk_bytes x.made)) _ _
     (summed_attain s x (sums_array x.made x.from x.axis) (cumulative_rounds s.split_every x.made x.from x.axis)) (inl (refl, refl))
 
 pub cumulative_own : (laws : HaveLaws) (infos : List NodeInfo) (options : Options) (out k : ℕ) (args : List Arg) (axis : Option ℤ) (ins : List ℕ) (first : ℕ) → HasRoom options first
@@ -419,10 +419,10 @@ cumulative_own laws infos options out k args axis ins first room summed =
 -- ---- groups by labels
 
 folded_labels_attain : (s : Setting) (x : Grouped) (partial : NodeInfo) (rs : List Round)
-    → Attain (with_merges rs (product_need s.reserved (info_bytes x.source_info) (info_bytes x.labels_info) (info_bytes x.made)) (merge_need s.reserved s.split_every (info_bytes x.made))) (labels_folded s x partial rs)
+    → Attain (with_merges rs (product_need s.reserved (chunk_bytes x.source_info) (chunk_bytes x.labels_info) (chunk_bytes x.made)) (merge_need s.reserved s.split_every (chunk_bytes x.made))) (labels_folded s x partial rs)
 folded_labels_attain s x partial [] = inl (refl, refl)
 folded_labels_attain s x partial (r ∷ rs) =
-    greater (product_need s.reserved (info_bytes x.source_info) (info_bytes x.labels_info) (info_bytes x.made)) (merge_need s.reserved s.split_every (info_bytes x.made)) _
+    greater (product_need s.reserved (chunk_bytes x.source_info) (chunk_bytes x.labels_info) (chunk_bytes x.made)) (merge_need s.reserved s.split_every (chunk_bytes x.made)) _
 
 -- those of groups by labels, which the form of node k tells of
 pub groups_own : (laws : HaveLaws) (infos : List NodeInfo) (options : Options) (out k : ℕ) (least : Bool) (args : List Arg) (axis : ℤ) (groups : ℕ) (ins : List ℕ) (first : ℕ) → HasRoom options first

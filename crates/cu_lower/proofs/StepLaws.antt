@@ -26,7 +26,7 @@ use Rattle.cu_lower_reduce.specs.Partials.{IsSetting}
 use Rattle.cu_lower_reduce.specs.Products.{product_steps, inner_products, IsProduct}
 use Rattle.cu_lower_reduce.specs.Reductions.{reduction_steps, reduced_indices, IsReduction}
 use Rattle.cu_lower_reduce.specs.Searches.{search_steps, value_chunk_bytes, IsSearch}
-use Rattle.cu_lower_reduce.specs.Steps.{HasInfo, HaveEach, HaveInfos, IsGiven, all_made, AreSteps, SolveSteps, last_made, with_merges, info_bytes, ComeTo}
+use Rattle.cu_lower_reduce.specs.Steps.{HasInfo, HaveEach, HaveInfos, IsGiven, all_made, AreSteps, SolveSteps, last_made, with_merges, ComeTo}
 use Rattle.cu_lower_reduce.specs.Copies.{aligned_places, aligned_steps, copy_steps, AreCopies, AreOperands, IsStaged}
 use Rattle.cu_lower_reduce.specs.declared.copy.CopySetting.{CopySetting}
 use Rattle.cu_lower_reduce.specs.declared.cumulative.Cumulative.{Cumulative}
@@ -36,12 +36,13 @@ use Rattle.cu_lower_reduce.specs.declared.reduction.Reduction.{Reduction}
 use Rattle.cu_lower_reduce.specs.declared.search.Search.{Search}
 use Rattle.cu_lower_reduce.specs.declared.step.Setting.{Setting}
 use Rattle.cu_lower_view.specs.Typed.{IsTypedView, IsPull}
+use Rattle.cu_node.specs.Info.{chunk_bytes}
 
 pub record ReductionLaw : Type 0 where
   pub steps : (arrays : List ArrayInfo) (s : Setting) (x : Reduction) → IsSetting s → IsReduction x → HasInfo arrays x.source x.from → HaveInfos arrays s.first (all_made (reduction_steps s x))
       → AreSteps arrays s.reserved (x.source ∷ []) s.first s.first (reduction_steps s x)
   pub sizes : (s : Setting) (x : Reduction) → IsSetting s → IsReduction x
-      → ComeTo (with_merges (reduction_rounds x.axes s.split_every x.from) (fold_need s.reserved (info_bytes x.from) (info_bytes x.made)) (merge_need s.reserved s.split_every (info_bytes x.made)))
+      → ComeTo (with_merges (reduction_rounds x.axes s.split_every x.from) (fold_need s.reserved (chunk_bytes x.from) (chunk_bytes x.made)) (merge_need s.reserved s.split_every (chunk_bytes x.made)))
       (chunks_written (first_partial x.made.dtype x.axes x.from) (reduction_rounds x.axes s.split_every x.from) x.made)
       (chunks_written (first_partial x.made.dtype x.axes x.from) (reduction_rounds x.axes s.split_every x.from) x.made) x.made (reduction_steps s x)
   pub value : (arrays : List ArrayInfo) (at : Elements) (s : Setting) (x : Reduction) → IsSetting s → IsReduction x → HasInfo arrays x.source x.from → HaveInfos arrays s.first (all_made (reduction_steps s x))
@@ -53,7 +54,7 @@ pub record SearchLaw : Type 0 where
   pub steps : (arrays : List ArrayInfo) (s : Setting) (x : Search) → IsSetting s → IsSearch x → HasInfo arrays x.source x.from → HaveInfos arrays s.first (all_made (search_steps s x))
       → AreSteps arrays s.reserved (x.source ∷ []) s.first s.first (search_steps s x)
   pub sizes : (s : Setting) (x : Search) → IsSetting s → IsSearch x
-      → ComeTo (with_merges (reduction_rounds (sought_axes x.axis) s.split_every x.from) (pair_fold_need s.reserved (info_bytes x.from) (value_chunk_bytes x) (info_bytes x.made)) (pair_merge_need s.reserved s.split_every (value_chunk_bytes x) (info_bytes x.made)))
+      → ComeTo (with_merges (reduction_rounds (sought_axes x.axis) s.split_every x.from) (pair_fold_need s.reserved (chunk_bytes x.from) (value_chunk_bytes x) (chunk_bytes x.made)) (pair_merge_need s.reserved s.split_every (value_chunk_bytes x) (chunk_bytes x.made)))
       (chunks_written (first_partial Int64 (sought_axes x.axis) x.from) (reduction_rounds (sought_axes x.axis) s.split_every x.from) x.made)
       (chunks_written (first_partial Int64 (sought_axes x.axis) x.from) (reduction_rounds (sought_axes x.axis) s.split_every x.from) x.made
       + chunks_before (first_partial x.from.dtype (sought_axes x.axis) x.from) (reduction_rounds (sought_axes x.axis) s.split_every x.from)) x.made (search_steps s x)
@@ -66,7 +67,7 @@ pub record ProductLaw : Type 0 where
   pub steps : (arrays : List ArrayInfo) (s : Setting) (x : Product) → IsSetting s → IsProduct x → HasInfo arrays x.left x.left_info → HasInfo arrays x.right x.right_info
       → HaveInfos arrays s.first (all_made (product_steps s x)) → AreSteps arrays s.reserved (x.left ∷ x.right ∷ []) s.first s.first (product_steps s x)
   pub sizes : (s : Setting) (x : Product) → IsSetting s → IsProduct x
-      → ComeTo (with_merges (product_rounds s.split_every x.left_info x.made) (product_need s.reserved (info_bytes x.left_info) (info_bytes x.right_info) (info_bytes x.made)) (merge_need s.reserved s.split_every (info_bytes x.made)))
+      → ComeTo (with_merges (product_rounds s.split_every x.left_info x.made) (product_need s.reserved (chunk_bytes x.left_info) (chunk_bytes x.right_info) (chunk_bytes x.made)) (merge_need s.reserved s.split_every (chunk_bytes x.made)))
       (chunks_written (product_partial x.left_info x.made) (product_rounds s.split_every x.left_info x.made) x.made)
       (chunks_written (product_partial x.left_info x.made) (product_rounds s.split_every x.left_info x.made) x.made) x.made (product_steps s x)
   pub value : (arrays : List ArrayInfo) (at : Elements) (s : Setting) (x : Product) → IsSetting s → IsProduct x → HasInfo arrays x.left x.left_info → HasInfo arrays x.right x.right_info
@@ -87,7 +88,7 @@ pub record GroupedLaw : Type 0 where
   pub steps : (arrays : List ArrayInfo) (s : Setting) (x : Grouped) → IsSetting s → IsGrouped x → HasInfo arrays x.source x.source_info → HasInfo arrays x.labels x.labels_info
       → HaveInfos arrays s.first (all_made (grouped_steps s x)) → AreSteps arrays s.reserved (x.source ∷ x.labels ∷ []) s.first s.first (grouped_steps s x)
   pub sizes : (s : Setting) (x : Grouped) → IsSetting s → IsGrouped x
-      → ComeTo (with_merges (product_rounds s.split_every x.labels_info x.made) (product_need s.reserved (info_bytes x.source_info) (info_bytes x.labels_info) (info_bytes x.made)) (merge_need s.reserved s.split_every (info_bytes x.made)))
+      → ComeTo (with_merges (product_rounds s.split_every x.labels_info x.made) (product_need s.reserved (chunk_bytes x.source_info) (chunk_bytes x.labels_info) (chunk_bytes x.made)) (merge_need s.reserved s.split_every (chunk_bytes x.made)))
       (chunks_written (product_partial x.labels_info x.made) (product_rounds s.split_every x.labels_info x.made) x.made)
       (chunks_written (product_partial x.labels_info x.made) (product_rounds s.split_every x.labels_info x.made) x.made) x.made (grouped_steps s x)
   pub value : (arrays : List ArrayInfo) (at : Elements) (s : Setting) (x : Grouped) → IsSetting s → IsGrouped x → HasInfo arrays x.source x.source_info → HasInfo arrays x.labels x.labels_info

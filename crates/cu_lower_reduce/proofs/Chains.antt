@@ -9,9 +9,9 @@ use Rattle.cu_tree.specs.declared.round.Round.{Round}
 use Rattle.cu_lower_reduce.specs.Partials.{partial_after}
 use Rattle.cu_lower_reduce.specs.Reductions.{merges}
 use Rattle.cu_lower_reduce.specs.Searches.{stored, places_number, value_chunk_bytes, pair_merges}
-use Rattle.cu_lower_reduce.specs.Steps.{info_bytes}
 use Rattle.cu_lower_reduce.specs.declared.search.Search.{Search}
 use Rattle.cu_lower_reduce.specs.declared.step.Setting.{Setting}
+use Rattle.cu_node.specs.Info.{chunk_bytes}
 
 pub after_more : (partial : NodeInfo) (rounds : List Round) (k : ℕ) (d : Round) → k < length rounds → partial_after partial rounds (k + 1) ≡ merged (get_or rounds k d) (partial_after partial rounds k)
 after_more partial [] k d h = absurd (omega arith)
@@ -34,7 +34,7 @@ pub merge_at : (s : Setting) (kind : FoldKind) (made : NodeInfo) (source : ℕ) 
       op = Merge kind (get_or rounds at d).axis s.split_every n (n + 1);
       values = None;
       made = written_before (drop (at + 1) rounds) (partial_after partial rounds (at + 1)) made;
-      need = merge_need s.reserved s.split_every (info_bytes made);
+      need = merge_need s.reserved s.split_every (chunk_bytes made);
     })
 merge_at s kind made source partial [] at n d h e = absurd (omega arith)
 merge_at s kind made source partial (r ∷ rs) zero n d h e = let z : n ≡ source = omega arith in rw z refl
@@ -52,7 +52,7 @@ pub pair_at : (s : Setting) (x : Search) (source : ℕ) (values places : NodeInf
       op = PairMerge x.least (get_or rounds at d).axis s.split_every n (n + 1) (stored (drop (at + 1) rounds) (n + 2)) (places_number (drop (at + 1) rounds) (n + 2));
       values = stored (drop (at + 1) rounds) (partial_after values rounds (at + 1));
       made = written_before (drop (at + 1) rounds) (partial_after places rounds (at + 1)) x.made;
-      need = pair_merge_need s.reserved s.split_every (value_chunk_bytes x) (info_bytes x.made);
+      need = pair_merge_need s.reserved s.split_every (value_chunk_bytes x) (chunk_bytes x.made);
     })
 pair_at s x source values places [] at n d h e = absurd (omega arith)
 pair_at s x source values places (r ∷ rs) zero n d h e = let z : n ≡ source = omega arith in rw z refl

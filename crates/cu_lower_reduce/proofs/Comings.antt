@@ -5,7 +5,7 @@ use Rattle.cu_num.specs.declared.folds.FoldKind.{FoldKind}
 use Rattle.cu_shape.specs.Counts.{counts_of}
 use Rattle.cu_shape.proofs.Axes.{length-axis_by_axis}
 use Rattle.cu_origin.specs.declared.axes.Axes.{Axes}
-use Rattle.cu_node.specs.Info.{IsInfo}
+use Rattle.cu_node.specs.Info.{IsInfo, chunk_bytes}
 use Rattle.cu_node.specs.declared.info.NodeInfo.{NodeInfo}
 use Rattle.cu_tree.specs.Needs.{fold_need, merge_need}
 use Rattle.cu_tree.specs.Partials.{first_partial, reduction_rounds, written_before, arrays_written, partials_before, chunks_of, chunks_written, IsMiddle}
@@ -16,7 +16,7 @@ use Rattle.cu_tree.proofs.Middles.{of_info, of_first, all_written}
 use Rattle.cu_tree.proofs.Totals.{all_but_last}
 use Rattle.cu_lower_reduce.specs.Partials.{IsSetting}
 use Rattle.cu_lower_reduce.specs.Reductions.{merges, reduction_steps, IsReduction}
-use Rattle.cu_lower_reduce.specs.Steps.{info_bytes, with_values, all_made, with_merges, step_tasks, ComeTo}
+use Rattle.cu_lower_reduce.specs.Steps.{with_values, all_made, with_merges, step_tasks, ComeTo}
 use Rattle.cu_lower_reduce.specs.declared.reduction.Reduction.{Reduction}
 use Rattle.cu_lower_reduce.specs.declared.step.Setting.{Setting}
 use Rattle.cu_lower_reduce.specs.declared.step.Step.{Step}
@@ -38,14 +38,14 @@ first_most [] first merge = omega arith
 first_most (r ∷ rs) first merge = omega arith
 
 needs_behind : (s : Setting) (kind : FoldKind) (made : NodeInfo) (source : ℕ) (i : NodeInfo) (rs : List Round) (first : ℕ)
-    → All (λ (st : Step). st.need ≤ with_merges rs first (merge_need s.reserved s.split_every (info_bytes made))) (merges s kind made source i rs)
+    → All (λ (st : Step). st.need ≤ with_merges rs first (merge_need s.reserved s.split_every (chunk_bytes made))) (merges s kind made source i rs)
 needs_behind s kind made source i [] first k d l = absurd (omega arith)
-needs_behind s kind made source i (r ∷ rs) first k d l = merges_needs s kind made source i (r ∷ rs) (max first (merge_need s.reserved s.split_every (info_bytes made))) (omega arith) k d l
+needs_behind s kind made source i (r ∷ rs) first k d l = merges_needs s kind made source i (r ∷ rs) (max first (merge_need s.reserved s.split_every (chunk_bytes made))) (omega arith) k d l
 
 -- a step with one array, and merges behind it
 pub chain_comes : (s : Setting) (kind : FoldKind) (axes : Axes) (made : NodeInfo) (source : ℕ) (i : NodeInfo) (rs : List Round) (y : Step) → y.values ≡ None → y.made ≡ written_before rs i made
     → step_tasks y ≡ chunks_of y.made → 2 ≤ s.split_every → AreRounds axes s.split_every i.dims rs → IsMiddle i → IsMiddle made → length rs ≤ 24
-    → ComeTo (with_merges rs y.need (merge_need s.reserved s.split_every (info_bytes made))) (chunks_written i rs made) (chunks_written i rs made) made (y ∷ merges s kind made source i rs)
+    → ComeTo (with_merges rs y.need (merge_need s.reserved s.split_every (chunk_bytes made))) (chunks_written i rs made) (chunks_written i rs made) made (y ∷ merges s kind made source i rs)
 chain_comes s kind axes made source i rs y v m t h rule first own few = record {
   ends = (partials_before i rs, arrays ∙ all_but_last i made rs);
   grids = subst (All IsMiddle) (sym arrays) (all_written axes s.split_every i made rs h rule first own);
@@ -63,12 +63,12 @@ chain_comes s kind axes made source i rs y v m t h rule first own few = record {
     tasks zero d l = t
     tasks (suc k) d l = merges_tasks s kind made source i rs k d (omega arith)
 
-    needs : All (λ (st : Step). st.need ≤ with_merges rs y.need (merge_need s.reserved s.split_every (info_bytes made))) (y ∷ merges s kind made source i rs)
-    needs zero d l = first_most rs y.need (merge_need s.reserved s.split_every (info_bytes made))
+    needs : All (λ (st : Step). st.need ≤ with_merges rs y.need (merge_need s.reserved s.split_every (chunk_bytes made))) (y ∷ merges s kind made source i rs)
+    needs zero d l = first_most rs y.need (merge_need s.reserved s.split_every (chunk_bytes made))
     needs (suc k) d l = needs_behind s kind made source i rs y.need k d (omega arith)
 
 pub reduction_comes : (s : Setting) (x : Reduction) → IsSetting s → IsReduction x
-    → ComeTo (with_merges (reduction_rounds x.axes s.split_every x.from) (fold_need s.reserved (info_bytes x.from) (info_bytes x.made)) (merge_need s.reserved s.split_every (info_bytes x.made)))
+    → ComeTo (with_merges (reduction_rounds x.axes s.split_every x.from) (fold_need s.reserved (chunk_bytes x.from) (chunk_bytes x.made)) (merge_need s.reserved s.split_every (chunk_bytes x.made)))
     (chunks_written (first_partial x.made.dtype x.axes x.from) (reduction_rounds x.axes s.split_every x.from) x.made)
     (chunks_written (first_partial x.made.dtype x.axes x.from) (reduction_rounds x.axes s.split_every x.from) x.made) x.made (reduction_steps s x)
 reduction_comes s x k h =

@@ -14,9 +14,9 @@ use Rattle.cu_op.specs.Nested.{IsNested}
 use Rattle.cu_op.specs.Kind.Copy.{region_grid}
 use Rattle.cu_op.specs.Elements.{Elements}
 use Rattle.cu_op.specs.declared.layout.ArrayInfo.{ArrayInfo}
-use Rattle.cu_node.specs.Info.{IsInfo, info_of}
+use Rattle.cu_node.specs.Info.{IsInfo, info_of, chunk_bytes}
 use Rattle.cu_node.specs.declared.info.NodeInfo.{NodeInfo}
-use Rattle.cu_copy.specs.Chunks.{chunk_bytes, chunk_count}
+use Rattle.cu_copy.specs.Chunks.{chunk_count}
 use Rattle.cu_copy.specs.Copies.{IsRechunk, between, greater_chunk, is_one_copy, rechunk_cells, rechunk_tasks, rechunked, region_count, staging}
 use Rattle.cu_copy.specs.declared.copies.CopyCounts.{CopyCounts}
 use Rattle.cu_copy.specs.declared.copies.Rechunk.{Rechunk}

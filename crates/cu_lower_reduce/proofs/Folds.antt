@@ -21,13 +21,14 @@ use Rattle.cu_tree.proofs.Orders.{of_reduction}
 use Rattle.cu_tree.proofs.Sizes.{length-dims, length-chunk}
 use Rattle.cu_lower_reduce.specs.Partials.{IsSetting}
 use Rattle.cu_lower_reduce.specs.Reductions.{merges, folded, reduction_steps, whole_groups, IsReduction}
-use Rattle.cu_lower_reduce.specs.Steps.{info_bytes, grid_of, HasInfo, HaveInfos, all_made, IsGiven, IsStep, AreSteps}
+use Rattle.cu_lower_reduce.specs.Steps.{grid_of, HasInfo, HaveInfos, all_made, IsGiven, IsStep, AreSteps}
 use Rattle.cu_lower_reduce.specs.declared.reduction.Reduction.{Reduction}
 use Rattle.cu_lower_reduce.specs.declared.step.Setting.{Setting}
 use Rattle.cu_lower_reduce.proofs.Lasts.{last_target}
 use Rattle.cu_lower_reduce.proofs.Squeezed.{same_grid, same_chunks}
 use Rattle.cu_lower_reduce.proofs.Standing.{first_stands, end_grid}
 use Rattle.cu_lower_reduce.proofs.Stepping.{IsChain, IsTurn, room_of, chunks_in, accumulates_self, same_bytes, merges_hold}
+use Rattle.cu_node.specs.Info.{chunk_bytes}
 
 -- ---- which axes have elements
 
@@ -82,7 +83,7 @@ pub written_type : (rs : List Round) (i made : NodeInfo) → i.dtype ≡ made.dt
 written_type [] i made e = refl
 written_type (r ∷ rs) i made e = e
 
-pub written_bytes : (rs : List Round) (i made : NodeInfo) → info_bytes i ≡ info_bytes made → info_bytes (written_before rs i made) ≡ info_bytes made
+pub written_bytes : (rs : List Round) (i made : NodeInfo) → chunk_bytes i ≡ chunk_bytes made → chunk_bytes (written_before rs i made) ≡ chunk_bytes made
 written_bytes [] i made e = refl
 written_bytes (r ∷ rs) i made e = e
 
@@ -105,7 +106,7 @@ turn_of s x k h = record {
 fold_holds : (arrays : List ArrayInfo) (s : Setting) (x : Reduction) (rs : List Round) → IsSetting s → IsReduction x → IsTurn s x.axes x.from x.made (first_partial x.made.dtype x.axes x.from) rs
     → HasInfo arrays x.source x.from → HasInfo arrays s.first (written_before rs (first_partial x.made.dtype x.axes x.from) x.made)
     → IsStep arrays s.reserved (x.source ∷ []) s.first s.first
-    (record { op = Fold x.kind x.axes x.source s.first; values = None; made = written_before rs (first_partial x.made.dtype x.axes x.from) x.made; need = fold_need s.reserved (info_bytes x.from) (info_bytes x.made) })
+    (record { op = Fold x.kind x.axes x.source s.first; values = None; made = written_before rs (first_partial x.made.dtype x.axes x.from) x.made; need = fold_need s.reserved (chunk_bytes x.from) (chunk_bytes x.made) })
 fold_holds arrays s x rs k h t i o =
     let partial = first_partial x.made.dtype x.axes x.from in
     let wt = written_type rs partial x.made refl in

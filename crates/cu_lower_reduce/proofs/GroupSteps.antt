@@ -19,7 +19,7 @@ use Rattle.cu_op.specs.Matrix.{HasParts}
 use Rattle.cu_op.specs.Operation.{Fits}
 use Rattle.cu_op.specs.declared.layout.ArrayInfo.{ArrayInfo}
 use Rattle.cu_op.specs.declared.operation.Op.TheVariants.{GroupFold}
-use Rattle.cu_node.specs.Info.{IsInfo}
+use Rattle.cu_node.specs.Info.{IsInfo, chunk_bytes}
 use Rattle.cu_node.specs.declared.info.NodeInfo.{NodeInfo}
 use Rattle.cu_tree.specs.Needs.{product_need, merge_need}
 use Rattle.cu_tree.specs.Partials.{first_partial, inner_count, product_partial, product_rounds, written_before, chunks_written}
@@ -31,7 +31,7 @@ use Rattle.cu_tree.proofs.Sizes.{count_few}
 use Rattle.cu_lower_reduce.specs.Grouped.{labels_folded, grouped_steps, IsGrouped}
 use Rattle.cu_lower_reduce.specs.Partials.{IsSetting}
 use Rattle.cu_lower_reduce.specs.Reductions.{merges}
-use Rattle.cu_lower_reduce.specs.Steps.{info_bytes, HasInfo, HaveInfos, all_made, IsGiven, IsStep, AreSteps, with_merges, ComeTo}
+use Rattle.cu_lower_reduce.specs.Steps.{HasInfo, HaveInfos, all_made, IsGiven, IsStep, AreSteps, with_merges, ComeTo}
 use Rattle.cu_lower_reduce.specs.declared.grouped.Grouped.{Grouped}
 use Rattle.cu_lower_reduce.specs.declared.step.Setting.{Setting}
 use Rattle.cu_lower_reduce.specs.declared.step.Step.{Step}
@@ -71,7 +71,7 @@ labels_kept x h = by_sizes x.labels_info h.label_sizes h.label_chunk h.label_byt
     one zero d l = chunk_positive x h
     one (suc k) d l = absurd (omega arith)
 
-    by_sizes : (i : NodeInfo) → i.dims ≡ axis_size x ∷ [] → i.chunk ≡ axis_chunk x ∷ [] → info_bytes i ≤ 2 ^ 28 → IsInfo i
+    by_sizes : (i : NodeInfo) → i.dims ≡ axis_size x ∷ [] → i.chunk ≡ axis_chunk x ∷ [] → chunk_bytes i ≤ 2 ^ 28 → IsInfo i
     by_sizes i d c b =
         let n = size_within x.source_info.dims x.axis h.along in
         let m = h.source.elements in
@@ -192,7 +192,7 @@ group_holds : (arrays : List ArrayInfo) (s : Setting) (x : Grouped) (rs : List R
       op = GroupFold x.kind x.axis x.groups x.source x.labels s.first;
       values = None;
       made = written_before rs (parts_of_labels x) x.made;
-      need = product_need s.reserved (info_bytes x.source_info) (info_bytes x.labels_info) (info_bytes x.made);
+      need = product_need s.reserved (chunk_bytes x.source_info) (chunk_bytes x.labels_info) (chunk_bytes x.made);
     })
 group_holds arrays s x rs k h t l r o =
     let same = written_bytes rs (parts_of_labels x) x.made (same_bytes s x.kind (labels_axis x) (all_labelled x) x.made (parts_of_labels x) (grouped_chain s x k h) t.stands refl) in
@@ -248,7 +248,7 @@ grouped_number s x = folded_number s x (parts_of_labels x) (product_rounds s.spl
 -- ---- what the steps come to
 
 pub grouped_comes : (s : Setting) (x : Grouped) → IsSetting s → IsGrouped x
-    → ComeTo (with_merges (product_rounds s.split_every x.labels_info x.made) (product_need s.reserved (info_bytes x.source_info) (info_bytes x.labels_info) (info_bytes x.made)) (merge_need s.reserved s.split_every (info_bytes x.made)))
+    → ComeTo (with_merges (product_rounds s.split_every x.labels_info x.made) (product_need s.reserved (chunk_bytes x.source_info) (chunk_bytes x.labels_info) (chunk_bytes x.made)) (merge_need s.reserved s.split_every (chunk_bytes x.made)))
     (chunks_written (parts_of_labels x) (product_rounds s.split_every x.labels_info x.made) x.made)
     (chunks_written (parts_of_labels x) (product_rounds s.split_every x.labels_info x.made) x.made) x.made (grouped_steps s x)
 grouped_comes s x k h =

@@ -34,7 +34,7 @@ use Rattle.cu_tree.specs.declared.round.Round.{Round}
 use Rattle.cu_lower_reduce.specs.Grouped.{labels_folded, grouped_steps, labelled_line, IsGrouped}
 use Rattle.cu_lower_reduce.specs.Partials.{IsSetting}
 use Rattle.cu_lower_reduce.specs.Reductions.{merges, whole_groups, reduced_indices}
-use Rattle.cu_lower_reduce.specs.Steps.{info_bytes, HasInfo, HaveInfos, all_made, SolveSteps}
+use Rattle.cu_lower_reduce.specs.Steps.{HasInfo, HaveInfos, all_made, SolveSteps}
 use Rattle.cu_lower_reduce.specs.declared.grouped.Grouped.{Grouped}
 use Rattle.cu_lower_reduce.specs.declared.step.Setting.{Setting}
 use Rattle.cu_lower_reduce.specs.declared.step.Step.{Step}
@@ -47,6 +47,7 @@ use Rattle.cu_lower_reduce.proofs.LastAxis.{axis_alone, has_own, has_other, coun
 use Rattle.cu_lower_reduce.proofs.Lasts.{last_target}
 use Rattle.cu_lower_reduce.proofs.ProductValues.{parts_of}
 use Rattle.cu_lower_reduce.proofs.Standing.{one_group}
+use Rattle.cu_node.specs.Info.{chunk_bytes}
 
 -- ---- an element as it counts in its group
 
@@ -265,7 +266,7 @@ elements_last r first (m ∷ ns) (d ∷ cs) n c e h b =
 
 abbrev group_head : Setting → Grouped → NodeInfo → List Round → Step
 group_head s x i rs =
-    record { op = GroupFold x.kind x.axis x.groups x.source x.labels s.first; values = None; made = written_before rs i x.made; need = product_need s.reserved (info_bytes x.source_info) (info_bytes x.labels_info) (info_bytes x.made) }
+    record { op = GroupFold x.kind x.axis x.groups x.source x.labels s.first; values = None; made = written_before rs i x.made; need = product_need s.reserved (chunk_bytes x.source_info) (chunk_bytes x.labels_info) (chunk_bytes x.made) }
 
 folded_value : (arrays : List ArrayInfo) (at : Elements) (s : Setting) (x : Grouped) (rs : List Round) → IsSetting s → IsGrouped x
     → IsGroupTurn s x rs

@@ -25,7 +25,7 @@ use Rattle.cu_tree.specs.Partials.{first_partial, reduction_rounds, merged, writ
 use Rattle.cu_tree.specs.declared.round.Round.{Round}
 use Rattle.cu_lower_reduce.specs.Partials.{IsSetting}
 use Rattle.cu_lower_reduce.specs.Reductions.{merges, folded, reduction_steps, whole_groups, reduced_indices, IsReduction}
-use Rattle.cu_lower_reduce.specs.Steps.{info_bytes, grid_of, HasInfo, HaveInfos, all_made, SolveSteps}
+use Rattle.cu_lower_reduce.specs.Steps.{grid_of, HasInfo, HaveInfos, all_made, SolveSteps}
 use Rattle.cu_lower_reduce.specs.declared.reduction.Reduction.{Reduction}
 use Rattle.cu_lower_reduce.specs.declared.step.Setting.{Setting}
 use Rattle.cu_lower_reduce.specs.declared.step.Step.{Step}
@@ -36,6 +36,7 @@ use Rattle.cu_lower_reduce.proofs.Lasts.{last_target}
 use Rattle.cu_lower_reduce.proofs.Squeezed.{same_elements}
 use Rattle.cu_lower_reduce.proofs.Standing.{merged_grid, end_grid}
 use Rattle.cu_lower_reduce.proofs.Stepping.{IsChain, IsTurn, next_turn, enough_along}
+use Rattle.cu_node.specs.Info.{chunk_bytes}
 
 -- ---- steps one after another
 
@@ -50,10 +51,10 @@ solve_behind arrays at y ys h x a idx c w = h x a idx (contains_behind y ys x c)
 
 abbrev merge_head : Setting → FoldKind → NodeInfo → ℕ → NodeInfo → Round → List Round → Step
 merge_head s kind made source i r rs =
-    record { op = Merge kind r.axis s.split_every source (source + 1); values = None; made = written_before rs (merged r i) made; need = merge_need s.reserved s.split_every (info_bytes made) }
+    record { op = Merge kind r.axis s.split_every source (source + 1); values = None; made = written_before rs (merged r i) made; need = merge_need s.reserved s.split_every (chunk_bytes made) }
 
 abbrev fold_head : Setting → Reduction → NodeInfo → List Round → Step
-fold_head s x i rs = record { op = Fold x.kind x.axes x.source s.first; values = None; made = written_before rs i x.made; need = fold_need s.reserved (info_bytes x.from) (info_bytes x.made) }
+fold_head s x i rs = record { op = Fold x.kind x.axes x.source s.first; values = None; made = written_before rs i x.made; need = fold_need s.reserved (chunk_bytes x.from) (chunk_bytes x.made) }
 
 -- ---- the rules, where the infos are known
 

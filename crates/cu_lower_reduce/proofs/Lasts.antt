@@ -8,9 +8,10 @@ use Rattle.cu_tree.specs.Needs.{merge_need}
 use Rattle.cu_tree.specs.Partials.{merged, written_before, arrays_written, chunks_of}
 use Rattle.cu_tree.specs.declared.round.Round.{Round}
 use Rattle.cu_lower_reduce.specs.Reductions.{merges}
-use Rattle.cu_lower_reduce.specs.Steps.{info_bytes, all_made, last_made, step_tasks}
+use Rattle.cu_lower_reduce.specs.Steps.{all_made, last_made, step_tasks}
 use Rattle.cu_lower_reduce.specs.declared.step.Setting.{Setting}
 use Rattle.cu_lower_reduce.specs.declared.step.Step.{Step}
+use Rattle.cu_node.specs.Info.{chunk_bytes}
 
 -- the result of the last step
 abbrev pub last_target : List Step → ℕ
@@ -44,7 +45,7 @@ pub merges_results : (s : Setting) (kind : FoldKind) (made : NodeInfo) (source :
 merges_results s kind made source i [] = refl
 merges_results s kind made source i (r ∷ rs) = ap (λ (is : List NodeInfo). i ∷ is) (merges_results s kind made (source + 1) (merged r i) rs)
 
-pub merges_needs : (s : Setting) (kind : FoldKind) (made : NodeInfo) (source : ℕ) (i : NodeInfo) (rs : List Round) (need : ℕ) → merge_need s.reserved s.split_every (info_bytes made) ≤ need
+pub merges_needs : (s : Setting) (kind : FoldKind) (made : NodeInfo) (source : ℕ) (i : NodeInfo) (rs : List Round) (need : ℕ) → merge_need s.reserved s.split_every (chunk_bytes made) ≤ need
     → All (λ st. st.need ≤ need) (merges s kind made source i rs)
 merges_needs s kind made source i [] need h k d l = absurd (omega arith)
 merges_needs s kind made source i (r ∷ rs) need h zero d l = h

@@ -22,7 +22,7 @@ use Rattle.cu_tree.proofs.Orders.{of_product}
 use Rattle.cu_tree.proofs.Sizes.{count_few}
 use Rattle.cu_lower_reduce.specs.Partials.{IsSetting}
 use Rattle.cu_lower_reduce.specs.Products.{multiplied, product_steps, IsProduct}
-use Rattle.cu_lower_reduce.specs.Steps.{info_bytes, HasInfo, HaveInfos, all_made, IsGiven, IsStep, AreSteps, with_merges, ComeTo}
+use Rattle.cu_lower_reduce.specs.Steps.{HasInfo, HaveInfos, all_made, IsGiven, IsStep, AreSteps, with_merges, ComeTo}
 use Rattle.cu_lower_reduce.specs.declared.product.Product.{Product}
 use Rattle.cu_lower_reduce.specs.declared.step.Setting.{Setting}
 use Rattle.cu_lower_reduce.proofs.Comings.{chain_comes}
@@ -31,6 +31,7 @@ use Rattle.cu_lower_reduce.proofs.LastAxis.{axis_alone, longer, has_own, counts_
 use Rattle.cu_lower_reduce.proofs.Lasts.{last_target}
 use Rattle.cu_lower_reduce.proofs.Standing.{IsPartial, first_stands}
 use Rattle.cu_lower_reduce.proofs.Stepping.{IsChain, IsTurn, room_of, chunks_in, same_bytes, merges_hold}
+use Rattle.cu_node.specs.Info.{chunk_bytes}
 
 -- ---- the array of all products
 
@@ -117,7 +118,7 @@ mul_holds : (arrays : List ArrayInfo) (s : Setting) (x : Product) (rs : List Rou
       op = Mul x.left x.right s.first;
       values = None;
       made = written_before rs (product_partial x.left_info x.made) x.made;
-      need = product_need s.reserved (info_bytes x.left_info) (info_bytes x.right_info) (info_bytes x.made);
+      need = product_need s.reserved (chunk_bytes x.left_info) (chunk_bytes x.right_info) (chunk_bytes x.made);
     })
 mul_holds arrays s x rs k h t l r o =
     let same = written_bytes rs (product_partial x.left_info x.made) x.made (same_bytes s Sum (axis_alone (length x.made.dims)) (all_products x) x.made (product_partial x.left_info x.made) (product_chain s x k h) t.stands refl) in
@@ -167,7 +168,7 @@ product_number s x = multiplied_number s x (product_partial x.left_info x.made) 
 -- ---- what the steps come to
 
 pub product_comes : (s : Setting) (x : Product) → IsSetting s → IsProduct x
-    → ComeTo (with_merges (product_rounds s.split_every x.left_info x.made) (product_need s.reserved (info_bytes x.left_info) (info_bytes x.right_info) (info_bytes x.made)) (merge_need s.reserved s.split_every (info_bytes x.made)))
+    → ComeTo (with_merges (product_rounds s.split_every x.left_info x.made) (product_need s.reserved (chunk_bytes x.left_info) (chunk_bytes x.right_info) (chunk_bytes x.made)) (merge_need s.reserved s.split_every (chunk_bytes x.made)))
     (chunks_written (product_partial x.left_info x.made) (product_rounds s.split_every x.left_info x.made) x.made)
     (chunks_written (product_partial x.left_info x.made) (product_rounds s.split_every x.left_info x.made) x.made) x.made (product_steps s x)
 product_comes s x k h =

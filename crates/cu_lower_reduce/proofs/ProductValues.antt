@@ -27,7 +27,7 @@ use Rattle.cu_tree.specs.declared.round.Round.{Round}
 use Rattle.cu_lower_reduce.specs.Partials.{IsSetting}
 use Rattle.cu_lower_reduce.specs.Products.{multiplied, product_steps, inner_products, IsProduct}
 use Rattle.cu_lower_reduce.specs.Reductions.{merges, whole_groups, reduced_indices}
-use Rattle.cu_lower_reduce.specs.Steps.{info_bytes, grid_of, HasInfo, HaveInfos, all_made, SolveSteps}
+use Rattle.cu_lower_reduce.specs.Steps.{grid_of, HasInfo, HaveInfos, all_made, SolveSteps}
 use Rattle.cu_lower_reduce.specs.declared.product.Product.{Product}
 use Rattle.cu_lower_reduce.specs.declared.step.Setting.{Setting}
 use Rattle.cu_lower_reduce.specs.declared.step.Step.{Step}
@@ -39,6 +39,7 @@ use Rattle.cu_lower_reduce.proofs.Lasts.{last_target}
 use Rattle.cu_lower_reduce.proofs.Multiplied.{all_products, product_ranks, first_products, product_chain, product_turn, one_part}
 use Rattle.cu_lower_reduce.proofs.Standing.{one_group}
 use Rattle.cu_lower_reduce.proofs.Stepping.{IsTurn}
+use Rattle.cu_node.specs.Info.{chunk_bytes}
 
 -- ---- the products
 
@@ -166,7 +167,7 @@ only_products x l r idx h few b =
 
 abbrev mul_head : Setting → Product → NodeInfo → List Round → Step
 mul_head s x i rs =
-    record { op = Mul x.left x.right s.first; values = None; made = written_before rs i x.made; need = product_need s.reserved (info_bytes x.left_info) (info_bytes x.right_info) (info_bytes x.made) }
+    record { op = Mul x.left x.right s.first; values = None; made = written_before rs i x.made; need = product_need s.reserved (chunk_bytes x.left_info) (chunk_bytes x.right_info) (chunk_bytes x.made) }
 
 multiplied_value : (arrays : List ArrayInfo) (at : Elements) (s : Setting) (x : Product) (rs : List Round) → IsSetting s → IsProduct x
     → IsTurn s (axis_alone (length x.made.dims)) (all_products x) x.made (product_partial x.left_info x.made) rs

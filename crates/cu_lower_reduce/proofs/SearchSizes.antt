@@ -17,7 +17,7 @@ use Rattle.cu_tree.specs.declared.round.Round.{Round}
 use Rattle.cu_tree.proofs.Middles.{of_info, of_first, of_merged}
 use Rattle.cu_lower_reduce.specs.Partials.{IsSetting}
 use Rattle.cu_lower_reduce.specs.Searches.{stored, value_chunk_bytes, pair_merges, pairs_found, search_steps, IsSearch}
-use Rattle.cu_lower_reduce.specs.Steps.{info_bytes, with_values, all_made, with_merges, step_tasks, ComeTo}
+use Rattle.cu_lower_reduce.specs.Steps.{with_values, all_made, with_merges, step_tasks, ComeTo}
 use Rattle.cu_lower_reduce.specs.declared.search.Search.{Search}
 use Rattle.cu_lower_reduce.specs.declared.step.Setting.{Setting}
 use Rattle.cu_lower_reduce.specs.declared.step.Step.{Step}
@@ -26,6 +26,7 @@ use Rattle.cu_lower_reduce.proofs.Comings.{rounds_few, first_most}
 use Rattle.cu_lower_reduce.proofs.Firsts.{first_bytes, size_most}
 use Rattle.cu_lower_reduce.proofs.Lasts.{sum_tasks}
 use Rattle.cu_lower_reduce.proofs.Searching.{typed, first_places, search_turn}
+use Rattle.cu_node.specs.Info.{chunk_bytes}
 
 -- the arrays of a step behind which these rounds follow, and of the merges
 abbrev found_arrays : Setting → Search → ℕ → NodeInfo → List Round → List NodeInfo
@@ -79,7 +80,7 @@ grids_found s x axes source i (r ∷ rs) h rule e m own (suc zero) d l = m
 grids_found s x axes source i (r ∷ rs) h rule e m own (suc (suc k)) d l =
     grids_found s x axes (source + 2) (merged r i) rs h rule.1 e (merged_middle axes s.split_every i r rs h rule m) own k d (omega arith)
 
-needs_found : (s : Setting) (x : Search) (source : ℕ) (v p : NodeInfo) (rs : List Round) (need : ℕ) → pair_merge_need s.reserved s.split_every (value_chunk_bytes x) (info_bytes x.made) ≤ need
+needs_found : (s : Setting) (x : Search) (source : ℕ) (v p : NodeInfo) (rs : List Round) (need : ℕ) → pair_merge_need s.reserved s.split_every (value_chunk_bytes x) (chunk_bytes x.made) ≤ need
     → All (λ (st : Step). st.need ≤ need) (pair_merges s x source v p rs)
 needs_found s x source v p [] need h k d l = absurd (omega arith)
 needs_found s x source v p (r ∷ rs) need h zero d l = h
@@ -91,7 +92,7 @@ tasks_found s x source v p (r ∷ rs) zero d l = refl
 tasks_found s x source v p (r ∷ rs) (suc k) d l = tasks_found s x (source + 2) (merged r v) (merged r p) rs k d (omega arith)
 
 found_comes : (s : Setting) (x : Search) (axes : Axes) (i : NodeInfo) (rs : List Round) → 2 ≤ s.split_every → AreRounds axes s.split_every i.dims rs → i.dtype ≡ Int64 → IsMiddle i → IsMiddle x.made → length rs ≤ 24
-    → ComeTo (with_merges rs (pair_fold_need s.reserved (info_bytes x.from) (value_chunk_bytes x) (info_bytes x.made)) (pair_merge_need s.reserved s.split_every (value_chunk_bytes x) (info_bytes x.made)))
+    → ComeTo (with_merges rs (pair_fold_need s.reserved (chunk_bytes x.from) (value_chunk_bytes x) (chunk_bytes x.made)) (pair_merge_need s.reserved s.split_every (value_chunk_bytes x) (chunk_bytes x.made)))
     (chunks_written i rs x.made) (chunks_written i rs x.made + chunks_before (typed x.from.dtype i) rs) x.made (pairs_found s x (typed x.from.dtype i) i rs)
 found_comes s x axes i rs h rule e m own few = record {
   ends = (before_last x.from.dtype i rs, ends_found s x s.first i rs);
@@ -111,14 +112,14 @@ found_comes s x axes i rs h rule e m own few = record {
     behind [] first merge w k d l = absurd (omega arith)
     behind (r ∷ rs) first merge w k d l = let n = w k d l in omega arith
 
-    needs : All (λ (st : Step). st.need ≤ with_merges rs (pair_fold_need s.reserved (info_bytes x.from) (value_chunk_bytes x) (info_bytes x.made)) (pair_merge_need s.reserved s.split_every (value_chunk_bytes x) (info_bytes x.made))) (pairs_found s x (typed x.from.dtype i) i rs)
-    needs zero d l = first_most rs (pair_fold_need s.reserved (info_bytes x.from) (value_chunk_bytes x) (info_bytes x.made)) (pair_merge_need s.reserved s.split_every (value_chunk_bytes x) (info_bytes x.made))
+    needs : All (λ (st : Step). st.need ≤ with_merges rs (pair_fold_need s.reserved (chunk_bytes x.from) (value_chunk_bytes x) (chunk_bytes x.made)) (pair_merge_need s.reserved s.split_every (value_chunk_bytes x) (chunk_bytes x.made))) (pairs_found s x (typed x.from.dtype i) i rs)
+    needs zero d l = first_most rs (pair_fold_need s.reserved (chunk_bytes x.from) (value_chunk_bytes x) (chunk_bytes x.made)) (pair_merge_need s.reserved s.split_every (value_chunk_bytes x) (chunk_bytes x.made))
     needs (suc k) d l =
-        behind rs (pair_fold_need s.reserved (info_bytes x.from) (value_chunk_bytes x) (info_bytes x.made)) (pair_merge_need s.reserved s.split_every (value_chunk_bytes x) (info_bytes x.made))
-        (needs_found s x s.first (typed x.from.dtype i) i rs (pair_merge_need s.reserved s.split_every (value_chunk_bytes x) (info_bytes x.made)) (omega arith)) k d (omega arith)
+        behind rs (pair_fold_need s.reserved (chunk_bytes x.from) (value_chunk_bytes x) (chunk_bytes x.made)) (pair_merge_need s.reserved s.split_every (value_chunk_bytes x) (chunk_bytes x.made))
+        (needs_found s x s.first (typed x.from.dtype i) i rs (pair_merge_need s.reserved s.split_every (value_chunk_bytes x) (chunk_bytes x.made)) (omega arith)) k d (omega arith)
 
 pub search_comes : (s : Setting) (x : Search) → IsSetting s → IsSearch x
-    → ComeTo (with_merges (reduction_rounds (sought_axes x.axis) s.split_every x.from) (pair_fold_need s.reserved (info_bytes x.from) (value_chunk_bytes x) (info_bytes x.made)) (pair_merge_need s.reserved s.split_every (value_chunk_bytes x) (info_bytes x.made)))
+    → ComeTo (with_merges (reduction_rounds (sought_axes x.axis) s.split_every x.from) (pair_fold_need s.reserved (chunk_bytes x.from) (value_chunk_bytes x) (chunk_bytes x.made)) (pair_merge_need s.reserved s.split_every (value_chunk_bytes x) (chunk_bytes x.made)))
     (chunks_written (first_partial Int64 (sought_axes x.axis) x.from) (reduction_rounds (sought_axes x.axis) s.split_every x.from) x.made)
     (chunks_written (first_partial Int64 (sought_axes x.axis) x.from) (reduction_rounds (sought_axes x.axis) s.split_every x.from) x.made
     + chunks_before (first_partial x.from.dtype (sought_axes x.axis) x.from) (reduction_rounds (sought_axes x.axis) s.split_every x.from)) x.made (search_steps s x)

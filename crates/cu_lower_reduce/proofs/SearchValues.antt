@@ -28,7 +28,7 @@ use Rattle.cu_tree.specs.declared.round.Round.{Round}
 use Rattle.cu_lower_reduce.specs.Partials.{IsSetting}
 use Rattle.cu_lower_reduce.specs.Reductions.{whole_groups, reduced_indices}
 use Rattle.cu_lower_reduce.specs.Searches.{value_chunk_bytes, pair_merges, pairs_found, search_steps, IsSearch}
-use Rattle.cu_lower_reduce.specs.Steps.{info_bytes, grid_of, HasInfo, HaveInfos, all_made, SolveSteps}
+use Rattle.cu_lower_reduce.specs.Steps.{grid_of, HasInfo, HaveInfos, all_made, SolveSteps}
 use Rattle.cu_lower_reduce.specs.declared.search.Search.{Search}
 use Rattle.cu_lower_reduce.specs.declared.step.Setting.{Setting}
 use Rattle.cu_lower_reduce.specs.declared.step.Step.{Step}
@@ -40,6 +40,7 @@ use Rattle.cu_lower_reduce.proofs.Lasts.{last_target}
 use Rattle.cu_lower_reduce.proofs.Searching.{typed, IsHunt, next_hunt, two_on, first_places, search_turn, same_groups}
 use Rattle.cu_lower_reduce.proofs.Standing.{merged_grid, end_grid}
 use Rattle.cu_lower_reduce.proofs.Stepping.{IsTurn, next_turn}
+use Rattle.cu_node.specs.Info.{chunk_bytes}
 
 -- ---- what is carried
 
@@ -157,7 +158,7 @@ after_pairs arrays s x f e source i r rs h c =
 
 abbrev last_head : Setting → Search → ℕ → NodeInfo → Round → Step
 last_head s x source i r =
-    record { op = PairMerge x.least r.axis s.split_every source (source + 1) None (source + 2); values = None; made = x.made; need = pair_merge_need s.reserved s.split_every (value_chunk_bytes x) (info_bytes x.made) }
+    record { op = PairMerge x.least r.axis s.split_every source (source + 1) None (source + 2); values = None; made = x.made; need = pair_merge_need s.reserved s.split_every (value_chunk_bytes x) (chunk_bytes x.made) }
 
 abbrev more_head : Setting → Search → ℕ → NodeInfo → Round → Step
 more_head s x source i r =
@@ -165,7 +166,7 @@ more_head s x source i r =
       op = PairMerge x.least r.axis s.split_every source (source + 1) (Some (source + 2)) (source + 2 + 1);
       values = Some (typed x.from.dtype (merged r i));
       made = merged r i;
-      need = pair_merge_need s.reserved s.split_every (value_chunk_bytes x) (info_bytes x.made);
+      need = pair_merge_need s.reserved s.split_every (value_chunk_bytes x) (chunk_bytes x.made);
     }
 
 pub pairs_value : (arrays : List ArrayInfo) (at : Elements) (s : Setting) (x : Search) (f : List ℕ → Option Found) (source : ℕ) (i : NodeInfo) (r : Round) (rs : List Round) → IsHunt arrays s x source i (r ∷ rs)
@@ -218,7 +219,7 @@ found_in_chunks at x h =
     (elements_same (has_axis (sought_axes x.axis)) 0 x.from.dims x.from.chunk x.from.dims (sym h.from.ranks) h.enough) (λ q b. refl)
 
 abbrev only_head : Setting → Search → Step
-only_head s x = record { op = PairFold x.least x.axis x.source None s.first; values = None; made = x.made; need = pair_fold_need s.reserved (info_bytes x.from) (value_chunk_bytes x) (info_bytes x.made) }
+only_head s x = record { op = PairFold x.least x.axis x.source None s.first; values = None; made = x.made; need = pair_fold_need s.reserved (chunk_bytes x.from) (value_chunk_bytes x) (chunk_bytes x.made) }
 
 abbrev first_head : Setting → Search → Step
 first_head s x =
@@ -226,7 +227,7 @@ first_head s x =
       op = PairFold x.least x.axis x.source (Some s.first) (s.first + 1);
       values = Some (typed x.from.dtype (first_places x));
       made = first_places x;
-      need = pair_fold_need s.reserved (info_bytes x.from) (value_chunk_bytes x) (info_bytes x.made);
+      need = pair_fold_need s.reserved (chunk_bytes x.from) (value_chunk_bytes x) (chunk_bytes x.made);
     }
 
 found_value : (arrays : List ArrayInfo) (at : Elements) (s : Setting) (x : Search) (rs : List Round) → IsSetting s → IsSearch x → IsTurn s (sought_axes x.axis) x.from x.made (first_places x) rs → HasInfo arrays x.source x.from

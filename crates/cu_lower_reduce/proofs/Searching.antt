@@ -16,7 +16,7 @@ use Rattle.cu_op.specs.Places.{StoresValues, HasPlaceAxis, value_room}
 use Rattle.cu_op.specs.Partial.{partial_grid, chunk_groups, place_groups, merge_groups, IsSqueezed}
 use Rattle.cu_op.specs.declared.layout.ArrayInfo.{ArrayInfo}
 use Rattle.cu_op.specs.declared.operation.Op.TheVariants.{PairFold, PairMerge}
-use Rattle.cu_node.specs.Info.{info_of}
+use Rattle.cu_node.specs.Info.{info_of, chunk_bytes}
 use Rattle.cu_node.specs.declared.info.NodeInfo.{NodeInfo}
 use Rattle.cu_tree.specs.Marks.{sought_axes}
 use Rattle.cu_tree.specs.Needs.{pair_fold_need, pair_merge_need}
@@ -27,7 +27,7 @@ use Rattle.cu_tree.proofs.Orders.{of_reduction}
 use Rattle.cu_lower_reduce.specs.Partials.{IsSetting}
 use Rattle.cu_lower_reduce.specs.Reductions.{whole_groups}
 use Rattle.cu_lower_reduce.specs.Searches.{stored, value_chunk_bytes, pair_merges, pairs_found, search_steps, IsSearch}
-use Rattle.cu_lower_reduce.specs.Steps.{info_bytes, grid_of, HasInfo, HaveInfos, all_made, IsGiven, IsStep, AreSteps}
+use Rattle.cu_lower_reduce.specs.Steps.{grid_of, HasInfo, HaveInfos, all_made, IsGiven, IsStep, AreSteps}
 use Rattle.cu_lower_reduce.specs.declared.search.Search.{Search}
 use Rattle.cu_lower_reduce.specs.declared.step.Setting.{Setting}
 use Rattle.cu_lower_reduce.proofs.Along.{elements_along}
@@ -58,7 +58,7 @@ groups_sought axis cs h = groups_agree (is_sought axis) (has_axis (sought_axes a
 pub same_chunk_size : (axes : Axes) (base made i : NodeInfo) → IsPartial axes base i → IsSqueezed (partial_grid (whole_groups axes base.dims) (grid_of base)) (grid_of made) → product i.chunk ≡ product made.chunk
 same_chunk_size axes base made i p h = ap product p.chunk ∙ same_size axes base made p.base_ranks h
 
-values_fewer : (x : Search) → IsSearch x → value_chunk_bytes x ≤ info_bytes x.made
+values_fewer : (x : Search) → IsSearch x → value_chunk_bytes x ≤ chunk_bytes x.made
 values_fewer x h =
     let e : size_of x.made.dtype ≡ 8 = ap size_of h.places in
     let m : product x.made.chunk * size_of x.from.dtype ≤ product x.made.chunk * 8 = mul-le (product x.made.chunk) (size_of x.from.dtype) (product x.made.chunk) 8 (omega arith) (size_most x.from.dtype) in
@@ -114,14 +114,14 @@ last_pair : (arrays : List ArrayInfo) (s : Setting) (x : Search) (given : List �
       op = PairMerge x.least r.axis s.split_every source (source + 1) None (source + 2);
       values = None;
       made = x.made;
-      need = pair_merge_need s.reserved s.split_every (value_chunk_bytes x) (info_bytes x.made);
+      need = pair_merge_need s.reserved s.split_every (value_chunk_bytes x) (chunk_bytes x.made);
     })
 last_pair arrays s x given first source i r before h k =
     let e = same_chunk_size (sought_axes x.axis) x.from x.made i h.turn.stands h.search.result in
-    let v : info_bytes (typed x.from.dtype i) ≡ value_chunk_bytes x = (λ j. e j * size_of x.from.dtype) in
-    let p : info_bytes i ≡ info_bytes x.made = (λ j. e j * size_of (h.turn.dtype j)) in
+    let v : chunk_bytes (typed x.from.dtype i) ≡ value_chunk_bytes x = (λ j. e j * size_of x.from.dtype) in
+    let p : chunk_bytes i ≡ chunk_bytes x.made = (λ j. e j * size_of (h.turn.dtype j)) in
     let fewer = values_fewer x h.search in
-    let g = group_bytes s.split_every (value_chunk_bytes x + info_bytes x.made) in
+    let g = group_bytes s.split_every (value_chunk_bytes x + chunk_bytes x.made) in
     record {
       writes = refl;
       reads = pair_reads given first source before;
@@ -137,14 +137,14 @@ more_pair : (arrays : List ArrayInfo) (s : Setting) (x : Search) (given : List �
       op = PairMerge x.least r.axis s.split_every source (source + 1) (Some (source + 2)) (source + 2 + 1);
       values = Some (typed x.from.dtype (merged r i));
       made = merged r i;
-      need = pair_merge_need s.reserved s.split_every (value_chunk_bytes x) (info_bytes x.made);
+      need = pair_merge_need s.reserved s.split_every (value_chunk_bytes x) (chunk_bytes x.made);
     })
 more_pair arrays s x given first source i r rs before h kv kp =
     let e = same_chunk_size (sought_axes x.axis) x.from x.made i h.turn.stands h.search.result in
-    let v : info_bytes (typed x.from.dtype i) ≡ value_chunk_bytes x = (λ j. e j * size_of x.from.dtype) in
-    let p : info_bytes i ≡ info_bytes x.made = (λ j. e j * size_of (h.turn.dtype j)) in
+    let v : chunk_bytes (typed x.from.dtype i) ≡ value_chunk_bytes x = (λ j. e j * size_of x.from.dtype) in
+    let p : chunk_bytes i ≡ chunk_bytes x.made = (λ j. e j * size_of (h.turn.dtype j)) in
     let fewer = values_fewer x h.search in
-    let g = group_bytes s.split_every (value_chunk_bytes x + info_bytes x.made) in
+    let g = group_bytes s.split_every (value_chunk_bytes x + chunk_bytes x.made) in
     record {
       writes = refl;
       reads = pair_reads given first source before;
@@ -232,7 +232,7 @@ fold_reads given source first next c (suc n) d l = absurd (omega arith)
 
 only_pair : (arrays : List ArrayInfo) (s : Setting) (x : Search) → IsSetting s → IsSearch x → IsTurn s (sought_axes x.axis) x.from x.made (first_places x) [] → HasInfo arrays x.source x.from → HasInfo arrays s.first x.made
     → IsStep arrays s.reserved (x.source ∷ []) s.first s.first
-    (record { op = PairFold x.least x.axis x.source None s.first; values = None; made = x.made; need = pair_fold_need s.reserved (info_bytes x.from) (value_chunk_bytes x) (info_bytes x.made) })
+    (record { op = PairFold x.least x.axis x.source None s.first; values = None; made = x.made; need = pair_fold_need s.reserved (chunk_bytes x.from) (value_chunk_bytes x) (chunk_bytes x.made) })
 only_pair arrays s x k h t i o = record {
   writes = refl;
   reads = fold_reads (x.source ∷ []) x.source s.first s.first (contains_first x.source []);
@@ -248,12 +248,12 @@ first_pair : (arrays : List ArrayInfo) (s : Setting) (x : Search) (r : Round) (r
       op = PairFold x.least x.axis x.source (Some s.first) (s.first + 1);
       values = Some (typed x.from.dtype (first_places x));
       made = first_places x;
-      need = pair_fold_need s.reserved (info_bytes x.from) (value_chunk_bytes x) (info_bytes x.made);
+      need = pair_fold_need s.reserved (chunk_bytes x.from) (value_chunk_bytes x) (chunk_bytes x.made);
     })
 first_pair arrays s x r rs k h t i v p =
     let e = same_chunk_size (sought_axes x.axis) x.from x.made (first_places x) t.stands h.result in
-    let ev : info_bytes (typed x.from.dtype (first_places x)) ≡ value_chunk_bytes x = (λ j. e j * size_of x.from.dtype) in
-    let ep : info_bytes (first_places x) ≡ info_bytes x.made = (λ j. e j * size_of (t.dtype j)) in
+    let ev : chunk_bytes (typed x.from.dtype (first_places x)) ≡ value_chunk_bytes x = (λ j. e j * size_of x.from.dtype) in
+    let ep : chunk_bytes (first_places x) ≡ chunk_bytes x.made = (λ j. e j * size_of (t.dtype j)) in
     let fewer = values_fewer x h in
     record {
       writes = refl;

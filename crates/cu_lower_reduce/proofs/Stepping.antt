@@ -21,16 +21,17 @@ use Rattle.cu_tree.specs.Rounds.{AreRounds}
 use Rattle.cu_tree.specs.declared.round.Round.{Round}
 use Rattle.cu_tree.proofs.Sizes.{length-chunk}
 use Rattle.cu_lower_reduce.specs.Reductions.{merges, whole_groups}
-use Rattle.cu_lower_reduce.specs.Steps.{info_bytes, grid_of, HasInfo, HaveInfos, all_made, IsGiven, IsStep, AreSteps}
+use Rattle.cu_lower_reduce.specs.Steps.{grid_of, HasInfo, HaveInfos, all_made, IsGiven, IsStep, AreSteps}
 use Rattle.cu_lower_reduce.specs.declared.step.Setting.{Setting}
 use Rattle.cu_lower_reduce.proofs.Along.{elements_along, has_enough}
 use Rattle.cu_lower_reduce.proofs.Firsts.{same_size}
 use Rattle.cu_lower_reduce.proofs.Squeezed.{same_grid}
 use Rattle.cu_lower_reduce.proofs.Standing.{IsPartial, merged_grid, merged_stands, end_grid}
+use Rattle.cu_node.specs.Info.{chunk_bytes}
 
 -- ---- an array of which something is known
 
-pub room_of : (arrays : List ArrayInfo) (a : ℕ) (i : NodeInfo) → HasInfo arrays a i → chunk_room arrays a ≡ info_bytes i
+pub room_of : (arrays : List ArrayInfo) (a : ℕ) (i : NodeInfo) → HasInfo arrays a i → chunk_room arrays a ≡ chunk_bytes i
 room_of arrays a i h j = product (h.grid j).chunk * size_of (h.dtype j)
 
 pub chunks_in : (arrays : List ArrayInfo) (a : ℕ) (i : NodeInfo) → HasInfo arrays a i → product (counts_of (grid_at arrays a).shape (grid_at arrays a).chunk) ≡ chunks_of i
@@ -64,14 +65,14 @@ group_bytes : (g b : ℕ) → (g + 1) * b ≡ g * b + b
 group_bytes g b = omega arith
 
 pub merge_steps : (arrays : List ArrayInfo) (s : Setting) (kind : FoldKind) (axis source : ℕ) (i o made : NodeInfo) (given : List ℕ) (first : ℕ) → first ≤ source
-    → HasInfo arrays source i → HasInfo arrays (source + 1) o → info_bytes i ≡ info_bytes made → info_bytes o ≡ info_bytes made → Fits arrays (Merge kind axis s.split_every source (source + 1))
+    → HasInfo arrays source i → HasInfo arrays (source + 1) o → chunk_bytes i ≡ chunk_bytes made → chunk_bytes o ≡ chunk_bytes made → Fits arrays (Merge kind axis s.split_every source (source + 1))
     → IsStep arrays s.reserved given first (source + 1)
-    (record { op = Merge kind axis s.split_every source (source + 1); values = None; made = o; need = merge_need s.reserved s.split_every (info_bytes made) })
+    (record { op = Merge kind axis s.split_every source (source + 1); values = None; made = o; need = merge_need s.reserved s.split_every (chunk_bytes made) })
 merge_steps arrays s kind axis source i o made given first before h k bi bo fits = record {
   writes = refl;
   reads = reads;
   fits = fits;
-  need = rw (room_of arrays source i h, room_of arrays (source + 1) o k, bi, bo) (let e = group_bytes s.split_every (info_bytes made) in omega (arith, e));
+  need = rw (room_of arrays source i h, room_of arrays (source + 1) o k, bi, bo) (let e = group_bytes s.split_every (chunk_bytes made) in omega (arith, e));
   tasks = chunks_in arrays (source + 1) o k;
 }
   where
@@ -98,7 +99,7 @@ pub record IsTurn (s : Setting) (axes : Axes) (base made i : NodeInfo) (rounds :
 pub chunk_ranks : (axes : Axes) (base i : NodeInfo) → IsPartial axes base i → length i.chunk ≡ length i.dims
 chunk_ranks axes base i p = ap length p.chunk ∙ length-chunk axes 0 base.chunk ∙ p.base_ranks ∙ sym p.ranks
 
-pub same_bytes : (s : Setting) (kind : FoldKind) (axes : Axes) (base made i : NodeInfo) → IsChain s kind axes base made → IsPartial axes base i → i.dtype ≡ made.dtype → info_bytes i ≡ info_bytes made
+pub same_bytes : (s : Setting) (kind : FoldKind) (axes : Axes) (base made i : NodeInfo) → IsChain s kind axes base made → IsPartial axes base i → i.dtype ≡ made.dtype → chunk_bytes i ≡ chunk_bytes made
 same_bytes s kind axes base made i c p t =
     let e : product i.chunk ≡ product made.chunk = ap product p.chunk ∙ same_size axes base made c.ranks c.result in
     λ j. e j * size_of (t j)

@@ -11,12 +11,12 @@ use Rattle.cu_tree.specs.Sums.{sums_array, sums_count, cumulative_rounds, carry_
 use Rattle.cu_tree.specs.declared.round.Round.{Round}
 use Rattle.cu_lower_reduce.specs.Cumulative.{carried_step, scanned_step, sum_merges, sum_carries, carry_before, first_carry, last_scan, summed_steps, cumulative_steps}
 use Rattle.cu_lower_reduce.specs.Partials.{partial_after}
-use Rattle.cu_lower_reduce.specs.Steps.{info_bytes}
 use Rattle.cu_lower_reduce.specs.declared.cumulative.Cumulative.{Cumulative}
 use Rattle.cu_lower_reduce.specs.declared.step.Setting.{Setting}
 use Rattle.cu_lower_reduce.specs.declared.step.Step.{Step}
 use Rattle.cu_lower_reduce.proofs.SumComings.{length-merges, length-carries, length-summed}
 use Rattle.cu_lower_reduce.proofs.Summing.{steps_by}
+use Rattle.cu_node.specs.Info.{chunk_bytes}
 
 -- ---- a place in lists one after another
 
@@ -32,7 +32,7 @@ get_right (x ∷ xs) ys (suc k) m e = get_right xs ys k m (omega (arith, e))
 
 -- ---- the arrays of sums by how many rounds are done
 
-pub after_bytes : (i : NodeInfo) (rs : List Round) (k : ℕ) → info_bytes (partial_after i rs k) ≡ info_bytes i
+pub after_bytes : (i : NodeInfo) (rs : List Round) (k : ℕ) → chunk_bytes (partial_after i rs k) ≡ chunk_bytes i
 after_bytes i rs zero = refl
 after_bytes i [] (suc k) = refl
 after_bytes i (r ∷ rs) (suc k) = after_bytes (merged r i) rs k
@@ -50,7 +50,7 @@ pub merge_at : (s : Setting) (source : ℕ) (i : NodeInfo) (rs : List Round) (at
       op = Merge Sum (get_or rs at d).axis s.split_every n (n + 1);
       values = None;
       made = partial_after i rs (at + 1);
-      need = merge_need s.reserved s.split_every (info_bytes i);
+      need = merge_need s.reserved s.split_every (chunk_bytes i);
     })
 merge_at s source i [] at n d h e = absurd (omega arith)
 merge_at s source i (r ∷ rs) zero n d h e = let z : n ≡ source = omega arith in rw z refl
@@ -91,7 +91,7 @@ pub carry_of : (s : Setting) (axis : ℕ) (i : NodeInfo) (rs : List Round) (at :
       op = Carry axis s.split_every (s.first + (length rs - at)) (carry_before (first_carry s rs) at) (first_carry s rs + at);
       values = None;
       made = partial_after i rs (length rs - at);
-      need = carry_need s.reserved s.split_every (info_bytes i);
+      need = carry_need s.reserved s.split_every (chunk_bytes i);
     })
 carry_of s axis i rs at h =
     carry_at s axis s.first i rs (first_carry s rs) at (s.first + (length rs - at)) h refl
@@ -154,7 +154,7 @@ carry_behind s x at sums rounds count st p q n several behind below e =
 
 pub last_behind : (s : Setting) (x : Cumulative) (at : ℕ) (sums : NodeInfo) (rounds : List Round) (count : ℕ) (st : Step) → sums ≡ sums_array x.made x.from x.axis → rounds ≡ cumulative_rounds s.split_every x.made x.from x.axis
     → count ≡ length rounds → 1 < sums_count x.made x.from x.axis → 2 * count + 1 < at → at < length (cumulative_steps s x)
-    → st ≡ scanned_step x (Some (s.first + count + 1 + count)) (s.first + count + 1 + count + 1) (product_need s.reserved (info_bytes x.from) (info_bytes sums) (info_bytes x.made))
+    → st ≡ scanned_step x (Some (s.first + count + 1 + count)) (s.first + count + 1 + count + 1) (product_need s.reserved (chunk_bytes x.from) (chunk_bytes sums) (chunk_bytes x.made))
     → slice_get (cumulative_steps s x) at ≡ Some st
 last_behind s x at sums rounds count st p q n several behind within e =
     let m : count ≡ length (cumulative_rounds s.split_every x.made x.from x.axis) = n ∙ ap (λ (rs : List Round). length rs) q in

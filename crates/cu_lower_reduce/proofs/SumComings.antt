@@ -14,13 +14,14 @@ use Rattle.cu_tree.proofs.SumArrays.{of_sums, all_sums, next_sums, few_sums}
 use Rattle.cu_tree.proofs.SumRounds.{rounds_fit}
 use Rattle.cu_lower_reduce.specs.Cumulative.{summed_step, regrouped_step, carried_step, sum_merges, sum_carries, scanned_step, first_carry, last_scan, summed_steps, cumulative_steps, IsCumulative}
 use Rattle.cu_lower_reduce.specs.Partials.{IsSetting}
-use Rattle.cu_lower_reduce.specs.Steps.{info_bytes, with_values, all_made, step_tasks, ComeTo}
+use Rattle.cu_lower_reduce.specs.Steps.{with_values, all_made, step_tasks, ComeTo}
 use Rattle.cu_lower_reduce.specs.declared.cumulative.Cumulative.{Cumulative}
 use Rattle.cu_lower_reduce.specs.declared.step.Setting.{Setting}
 use Rattle.cu_lower_reduce.specs.declared.step.Step.{Step}
 use Rattle.cu_lower_reduce.proofs.Operands.{made_append}
 use Rattle.cu_lower_reduce.proofs.SumTurns.{first_turn}
 use Rattle.cu_lower_reduce.proofs.Summing.{merges_sums, steps_by}
+use Rattle.cu_node.specs.Info.{chunk_bytes}
 
 -- ---- how many steps
 
@@ -139,12 +140,12 @@ carried_middle s axis source i (r ∷ rs) next h rule m =
 
 -- ---- what each needs
 
-merges_need : (s : Setting) (source : ℕ) (i : NodeInfo) (rs : List Round) (need : ℕ) → merge_need s.reserved s.split_every (info_bytes i) ≤ need → All (λ (st : Step). st.need ≤ need) (sum_merges s source i rs)
+merges_need : (s : Setting) (source : ℕ) (i : NodeInfo) (rs : List Round) (need : ℕ) → merge_need s.reserved s.split_every (chunk_bytes i) ≤ need → All (λ (st : Step). st.need ≤ need) (sum_merges s source i rs)
 merges_need s source i [] need h = All-nil (λ (st : Step). st.need ≤ need)
 merges_need s source i (r ∷ rs) need h =
     behind_one (λ (st : Step). st.need ≤ need) (regrouped_step s source i r) (sum_merges s (source + 1) (merged r i) rs) h (merges_need s (source + 1) (merged r i) rs need h)
 
-carries_need : (s : Setting) (axis source : ℕ) (i : NodeInfo) (rs : List Round) (next need : ℕ) → carry_need s.reserved s.split_every (info_bytes i) ≤ need → All (λ (st : Step). st.need ≤ need) (sum_carries s axis source i rs next)
+carries_need : (s : Setting) (axis source : ℕ) (i : NodeInfo) (rs : List Round) (next need : ℕ) → carry_need s.reserved s.split_every (chunk_bytes i) ≤ need → All (λ (st : Step). st.need ≤ need) (sum_carries s axis source i rs next)
 carries_need s axis source i [] next need h = one_of (λ (st : Step). st.need ≤ need) (carried_step s axis source i None next) h
 carries_need s axis source i (r ∷ rs) next need h =
     All-append (λ (st : Step). st.need ≤ need) (sum_carries s axis (source + 1) (merged r i) rs next) (carried_step s axis source i (Some (next + length rs)) (next + length rs + 1) ∷ [])
@@ -158,13 +159,13 @@ merge_below r g b = let m : (g + 1) * b ≤ (g + 1 + 1) * b = mul-le (g + 1) b (
 
 abbrev several_need : Setting → Cumulative → NodeInfo → ℕ
 several_need s x i =
-    max (fold_need s.reserved (info_bytes x.from) (info_bytes i)) (max (carry_need s.reserved s.split_every (info_bytes i)) (product_need s.reserved (info_bytes x.from) (info_bytes i) (info_bytes x.made)))
+    max (fold_need s.reserved (chunk_bytes x.from) (chunk_bytes i)) (max (carry_need s.reserved s.split_every (chunk_bytes i)) (product_need s.reserved (chunk_bytes x.from) (chunk_bytes i) (chunk_bytes x.made)))
 
 summed_comes : (s : Setting) (x : Cumulative) (i : NodeInfo) (rs : List Round) → 2 ≤ s.split_every → AreSumRounds s.split_every x.axis i.dims rs → IsMiddle i → IsMiddle x.made → length rs ≤ 15
     → ComeTo (several_need s x i) (2 * sum_by chunks_of (sums_from i rs) + chunks_of x.made) (2 * sum_by chunks_of (sums_from i rs) + chunks_of x.made) x.made (summed_steps s x i rs)
 summed_comes s x i rs h rule first own few =
     let carried = all_made (sum_carries s x.axis s.first i rs (first_carry s rs)) in
-    let below = merge_below s.reserved s.split_every (info_bytes i) in
+    let below = merge_below s.reserved s.split_every (chunk_bytes i) in
     record {
       ends = (sums_from i rs ++ all_made (sum_carries s x.axis s.first i rs (first_carry s rs)), made_summed s x i rs ∙ sym (append_assoc (sums_from i rs) (all_made (sum_carries s x.axis s.first i rs (first_carry s rs))) (x.made ∷ [])));
       grids = subst (All IsMiddle) (sym (made_summed s x i rs))
@@ -191,7 +192,7 @@ lone_comes s x need own =
     }
 
 abbrev need_by : Setting → Cumulative → Bool → ℕ
-need_by s x several = if several then several_need s x (sums_array x.made x.from x.axis) else fold_need s.reserved (info_bytes x.from) (info_bytes x.made)
+need_by s x several = if several then several_need s x (sums_array x.made x.from x.axis) else fold_need s.reserved (chunk_bytes x.from) (chunk_bytes x.made)
 
 abbrev chunks_by : Setting → Cumulative → Bool → ℕ
 chunks_by s x several =
@@ -201,7 +202,7 @@ comes_by : (several : Bool) (s : Setting) (x : Cumulative) → IsSetting s → I
 comes_by true s x k h =
     summed_comes s x (sums_array x.made x.from x.axis) (cumulative_rounds s.split_every x.made x.from x.axis) k.several (first_turn s x k h).rule
     (of_sums x.made x.from x.axis h.summed) (of_info x.made h.summed.made_info) (turns_few s x k h)
-comes_by false s x k h = lone_comes s x (fold_need s.reserved (info_bytes x.from) (info_bytes x.made)) (of_info x.made h.summed.made_info)
+comes_by false s x k h = lone_comes s x (fold_need s.reserved (chunk_bytes x.from) (chunk_bytes x.made)) (of_info x.made h.summed.made_info)
 
 pub cumulative_comes : (s : Setting) (x : Cumulative) → IsSetting s → IsCumulative x
     → ComeTo (cumulative_need s.reserved s.split_every x.made x.from x.axis) (cumulative_chunks s.split_every x.made x.from x.axis) (cumulative_chunks s.split_every x.made x.from x.axis) x.made (cumulative_steps s x)

@@ -28,7 +28,7 @@ use Rattle.cu_tree.specs.declared.round.Round.{Round}
 use Rattle.cu_tree.proofs.SumArrays.{count_is}
 use Rattle.cu_lower_reduce.specs.Cumulative.{summed_step, regrouped_step, carried_step, scanned_step, sum_merges, sum_carries, first_carry, last_carry, last_scan, summed_steps, cumulative_steps, IsCumulative}
 use Rattle.cu_lower_reduce.specs.Partials.{IsSetting}
-use Rattle.cu_lower_reduce.specs.Steps.{info_bytes, grid_of, HasInfo, HaveInfos, all_made, SolveSteps, last_made}
+use Rattle.cu_lower_reduce.specs.Steps.{grid_of, HasInfo, HaveInfos, all_made, SolveSteps, last_made}
 use Rattle.cu_lower_reduce.specs.declared.cumulative.Cumulative.{Cumulative}
 use Rattle.cu_lower_reduce.specs.declared.step.Setting.{Setting}
 use Rattle.cu_lower_reduce.specs.declared.step.Step.{Step}
@@ -38,6 +38,7 @@ use Rattle.cu_lower_reduce.proofs.LastAxis.{axis_alone}
 use Rattle.cu_lower_reduce.proofs.Operands.{made_front, solve_front, solve_back}
 use Rattle.cu_lower_reduce.proofs.SumTurns.{IsSumTurn, first_turn, next_turn, turn_grid, has_alone, only_axis}
 use Rattle.cu_lower_reduce.proofs.Summing.{first_info, last_carried, HaveSums, have_sums, summed_arrays, steps_by}
+use Rattle.cu_node.specs.Info.{chunk_bytes}
 
 -- ---- the laws of a scan with what is carried and of one without
 
@@ -176,7 +177,7 @@ value_by true arrays at s x e law lone k h f o solve idx b =
 value_by false arrays at s x e law lone k h f o solve idx b =
     let z : last_made s.first (steps_by s x false) ≡ s.first = omega arith in
     ap (λ (a : ℕ). at a idx) z
-    ∙ scanned_value arrays at x None s.first (fold_need s.reserved (info_bytes x.from) (info_bytes x.made)) f o.0 solve idx
+    ∙ scanned_value arrays at x None s.first (fold_need s.reserved (chunk_bytes x.from) (chunk_bytes x.made)) f o.0 solve idx
     ∙ lone x.made.dtype x.axis (slice_index x.from.chunk x.axis) x.from.dims (at x.source) idx h.summed.along (one_chunk x h (ltb-false 1 (sums_count x.made x.from x.axis) e)) b
 
 pub cumulative_value : CarriedLaw → SingleLaw → (arrays : List ArrayInfo) (at : Elements) (s : Setting) (x : Cumulative) → IsSetting s → IsCumulative x → HasInfo arrays x.source x.from

@@ -17,7 +17,7 @@ use Rattle.cu_tree.specs.Sums.{sums_array, sums_count, cumulative_rounds, sums_f
 use Rattle.cu_tree.specs.declared.round.Round.{Round}
 use Rattle.cu_lower_reduce.specs.Cumulative.{summed_step, carried_step, scanned_step, sum_merges, sum_carries, first_carry, last_carry, last_scan, summed_steps, cumulative_steps, IsCumulative}
 use Rattle.cu_lower_reduce.specs.Partials.{IsSetting}
-use Rattle.cu_lower_reduce.specs.Steps.{info_bytes, grid_of, HasInfo, HaveInfos, all_made, last_made, IsGiven, IsStep, AreSteps}
+use Rattle.cu_lower_reduce.specs.Steps.{grid_of, HasInfo, HaveInfos, all_made, last_made, IsGiven, IsStep, AreSteps}
 use Rattle.cu_lower_reduce.specs.declared.cumulative.Cumulative.{Cumulative}
 use Rattle.cu_lower_reduce.specs.declared.step.Setting.{Setting}
 use Rattle.cu_lower_reduce.specs.declared.step.Step.{Step}
@@ -27,6 +27,7 @@ use Rattle.cu_lower_reduce.proofs.Operands.{length-made, made_front, made_back, 
 use Rattle.cu_lower_reduce.proofs.Squeezed.{same_grid}
 use Rattle.cu_lower_reduce.proofs.Stepping.{room_of, chunks_in, merge_fits, merge_steps}
 use Rattle.cu_lower_reduce.proofs.SumTurns.{IsSumTurn, first_turn, next_turn, turn_below, turn_ranks, turn_single, turn_grid, sums_grid}
+use Rattle.cu_node.specs.Info.{chunk_bytes}
 
 -- ---- arrays by their numbers
 
@@ -117,7 +118,7 @@ pub record IsAboveSums (arrays : List ArrayInfo) (s : Setting) (x : Cumulative) 
   pub info : NodeInfo
   pub has : HasInfo arrays a info
   pub dtype : info.dtype ≡ x.made.dtype
-  pub bytes : info_bytes info ≡ info_bytes i
+  pub bytes : chunk_bytes info ≡ chunk_bytes i
   pub grid : partial_grid (merge_groups x.axis s.split_every (grid_of i)) (grid_of i) ≡ grid_of info
 
 carries_for : (arrays : List ArrayInfo) (s : Setting) (x : Cumulative) (source out : ℕ) (i : NodeInfo) (above : Option ℕ) → HasInfo arrays source i → HasInfo arrays out i → i.dtype ≡ x.made.dtype
@@ -151,10 +152,10 @@ carry_bytes r g b = omega arith
 carry_needs : (arrays : List ArrayInfo) (s : Setting) (x : Cumulative) (source out : ℕ) (i : NodeInfo) (above : Option ℕ) → HasInfo arrays source i → HasInfo arrays out i → IfSome above (IsAboveSums arrays s x source i)
     → (carried_step s x.axis source i above out).need ≡ projection arrays s.reserved (Carry x.axis s.split_every source above out)
 carry_needs arrays s x source out i None f o a =
-    let e = carry_bytes s.reserved s.split_every (info_bytes i) in
+    let e = carry_bytes s.reserved s.split_every (chunk_bytes i) in
     rw (room_of arrays source i f, room_of arrays out i o) (omega (arith, e))
 carry_needs arrays s x source out i (Some b) f o a =
-    let e = carry_bytes s.reserved s.split_every (info_bytes i) in
+    let e = carry_bytes s.reserved s.split_every (chunk_bytes i) in
     rw (room_of arrays source i f, room_of arrays out i o, room_of arrays b a.info a.has, a.bytes) (omega (arith, e))
 
 carry_holds : (arrays : List ArrayInfo) (s : Setting) (x : Cumulative) (given : List ℕ) (first source out : ℕ) (i : NodeInfo) (rs : List Round) (above : Option ℕ) → IsSetting s → IsCumulative x → IsSumTurn s x i rs
@@ -233,7 +234,7 @@ scan_fits arrays x out i carry h f o a =
     }
 
 pub lone_holds : (arrays : List ArrayInfo) (s : Setting) (x : Cumulative) → IsCumulative x → HasInfo arrays x.source x.from → HasInfo arrays s.first x.made
-    → IsStep arrays s.reserved (x.source ∷ []) s.first s.first (scanned_step x None s.first (fold_need s.reserved (info_bytes x.from) (info_bytes x.made)))
+    → IsStep arrays s.reserved (x.source ∷ []) s.first s.first (scanned_step x None s.first (fold_need s.reserved (chunk_bytes x.from) (chunk_bytes x.made)))
 lone_holds arrays s x h f o = record {
   writes = refl;
   reads = reads;
@@ -247,7 +248,7 @@ lone_holds arrays s x h f o = record {
     reads (suc n) d l = absurd (omega arith)
 
 scan_holds : (arrays : List ArrayInfo) (s : Setting) (x : Cumulative) (carry out : ℕ) (i : NodeInfo) → IsCumulative x → s.first ≤ carry → carry < out → HasInfo arrays x.source x.from → HasInfo arrays out x.made
-    → IsCarriedIn arrays x i carry → IsStep arrays s.reserved (x.source ∷ []) s.first out (scanned_step x (Some carry) out (product_need s.reserved (info_bytes x.from) (info_bytes i) (info_bytes x.made)))
+    → IsCarriedIn arrays x i carry → IsStep arrays s.reserved (x.source ∷ []) s.first out (scanned_step x (Some carry) out (product_need s.reserved (chunk_bytes x.from) (chunk_bytes i) (chunk_bytes x.made)))
 scan_holds arrays s x carry out i h before behind f o a = record {
   writes = refl;
   reads = reads;
@@ -318,7 +319,7 @@ abbrev pub steps_by : Setting → Cumulative → Bool → List Step
 steps_by s x several =
     if several
     then summed_steps s x (sums_array x.made x.from x.axis) (cumulative_rounds s.split_every x.made x.from x.axis)
-    else scanned_step x None s.first (fold_need s.reserved (info_bytes x.from) (info_bytes x.made)) ∷ []
+    else scanned_step x None s.first (fold_need s.reserved (chunk_bytes x.from) (chunk_bytes x.made)) ∷ []
 
 holds_by : (several : Bool) (arrays : List ArrayInfo) (s : Setting) (x : Cumulative) → IsSetting s → IsCumulative x → x.source < s.first → HasInfo arrays x.source x.from
     → HaveInfos arrays s.first (all_made (steps_by s x several)) → AreSteps arrays s.reserved (x.source ∷ []) s.first s.first (steps_by s x several)

@@ -2,7 +2,7 @@
 use Rattle.std.specs.Prelude.{◌≡◌, ℕ, ◌+◌, ◌*◌, ◌<◌, ◌≤◌, ◌^◌, Bool, true, false, List, [], ◌∷◌, ◌++◌, All, filter, length, max, None, sum_by, if◌then◌else◌}
 use Rattle.cu_num.specs.Dtype.{size_of}
 use Rattle.cu_shape.specs.Index.{product}
-use Rattle.cu_copy.specs.Chunks.{chunk_bytes, chunk_count}
+use Rattle.cu_copy.specs.Chunks.{chunk_count}
 use Rattle.cu_copy.specs.Copies.{IsRechunk, between, greater_chunk, is_misaligned, is_one_copy, rechunked, staging}
 use Rattle.cu_copy.specs.declared.copies.Rechunk.{Rechunk}
 use Rattle.cu_grid.specs.Grid.{IsGrid}
@@ -13,6 +13,7 @@ use Rattle.cu_rechunk.specs.declared.staging.Staging.{Staging}
 use Rattle.cu_lower_reduce.specs.Steps.{all_made, grid_of, last_made, step_tasks}
 use Rattle.cu_lower_reduce.specs.declared.copy.CopySetting.{CopySetting}
 use Rattle.cu_lower_reduce.specs.declared.step.Step.{Step}
+use Rattle.cu_node.specs.Info.{chunk_bytes}
 
 -- ---- one array
 

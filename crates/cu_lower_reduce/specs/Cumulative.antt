@@ -11,10 +11,10 @@ use Rattle.cu_tree.specs.Needs.{fold_need, merge_need, product_need}
 use Rattle.cu_tree.specs.Partials.{merged}
 use Rattle.cu_tree.specs.Sums.{sums_array, sums_count, cumulative_rounds, carry_need, IsSummed}
 use Rattle.cu_tree.specs.declared.round.Round.{Round}
-use Rattle.cu_lower_reduce.specs.Steps.{info_bytes}
 use Rattle.cu_lower_reduce.specs.declared.cumulative.Cumulative.{Cumulative}
 use Rattle.cu_lower_reduce.specs.declared.step.Setting.{Setting}
 use Rattle.cu_lower_reduce.specs.declared.step.Step.{Step}
+use Rattle.cu_node.specs.Info.{chunk_bytes}
 
 -- ---- one step of each kind
 
@@ -24,7 +24,7 @@ summed_step s x sums = record {
   op = Fold Sum (sought_axes (Some x.axis)) x.source s.first;
   values = None;
   made = sums;
-  need = fold_need s.reserved (info_bytes x.from) (info_bytes sums);
+  need = fold_need s.reserved (chunk_bytes x.from) (chunk_bytes sums);
 }
 
 -- the sums of groups of those in array number `source`, which is `sums`
@@ -33,7 +33,7 @@ regrouped_step s source sums r = record {
   op = Merge Sum r.axis s.split_every source (source + 1);
   values = None;
   made = merged r sums;
-  need = merge_need s.reserved s.split_every (info_bytes sums);
+  need = merge_need s.reserved s.split_every (chunk_bytes sums);
 }
 
 -- what comes before each of them, with what comes before their groups, where there are several
@@ -42,7 +42,7 @@ carried_step s axis source sums above out = record {
   op = Carry axis s.split_every source above out;
   values = None;
   made = sums;
-  need = carry_need s.reserved s.split_every (info_bytes sums);
+  need = carry_need s.reserved s.split_every (chunk_bytes sums);
 }
 
 -- the prefix sums
@@ -78,7 +78,7 @@ last_carry s rs = first_carry s rs + length rs
 -- the last of several steps
 abbrev pub last_scan : Setting → Cumulative → NodeInfo → List Round → Step
 last_scan s x sums rs =
-    scanned_step x (Some (last_carry s rs)) (last_carry s rs + 1) (product_need s.reserved (info_bytes x.from) (info_bytes sums) (info_bytes x.made))
+    scanned_step x (Some (last_carry s rs)) (last_carry s rs + 1) (product_need s.reserved (chunk_bytes x.from) (chunk_bytes sums) (chunk_bytes x.made))
 
 -- of an axis with several chunks
 abbrev pub summed_steps : Setting → Cumulative → NodeInfo → List Round → List Step
@@ -89,7 +89,7 @@ abbrev pub cumulative_steps : Setting → Cumulative → List Step
 cumulative_steps s x =
     if nat_lt 1 (sums_count x.made x.from x.axis)
     then summed_steps s x (sums_array x.made x.from x.axis) (cumulative_rounds s.split_every x.made x.from x.axis)
-    else scanned_step x None s.first (fold_need s.reserved (info_bytes x.from) (info_bytes x.made)) ∷ []
+    else scanned_step x None s.first (fold_need s.reserved (chunk_bytes x.from) (chunk_bytes x.made)) ∷ []
 
 -- ---- what is summed
 

@@ -7,13 +7,12 @@ use Rattle.cu_num.specs.declared.folds.FoldKind.TheVariants.{Sum, Min}
 use Rattle.cu_reduce.specs.Kinds.{Accumulates}
 use Rattle.cu_reduce.specs.Labels.{Labelled, marked}
 use Rattle.cu_op.specs.declared.operation.Op.TheVariants.{GroupFold}
-use Rattle.cu_node.specs.Info.{IsInfo}
+use Rattle.cu_node.specs.Info.{IsInfo, chunk_bytes}
 use Rattle.cu_node.specs.declared.info.NodeInfo.{NodeInfo}
 use Rattle.cu_tree.specs.Needs.{product_need}
 use Rattle.cu_tree.specs.Partials.{product_partial, product_rounds, written_before}
 use Rattle.cu_tree.specs.declared.round.Round.{Round}
 use Rattle.cu_lower_reduce.specs.Reductions.{merges}
-use Rattle.cu_lower_reduce.specs.Steps.{info_bytes}
 use Rattle.cu_lower_reduce.specs.declared.grouped.Grouped.{Grouped}
 use Rattle.cu_lower_reduce.specs.declared.step.Setting.{Setting}
 use Rattle.cu_lower_reduce.specs.declared.step.Step.{Step}
@@ -25,7 +24,7 @@ labels_folded s x partial rs =
       op = GroupFold x.kind x.axis x.groups x.source x.labels s.first;
       values = None;
       made = written_before rs partial x.made;
-      need = product_need s.reserved (info_bytes x.source_info) (info_bytes x.labels_info) (info_bytes x.made);
+      need = product_need s.reserved (chunk_bytes x.source_info) (chunk_bytes x.labels_info) (chunk_bytes x.made);
     } ∷ merges s x.kind x.made s.first partial rs
 
 abbrev pub grouped_steps : Setting → Grouped → List Step
@@ -52,7 +51,7 @@ pub record IsGrouped (x : Grouped) : Type 0 where
   pub label_type : IsInteger x.labels_info.dtype
   pub label_sizes : x.labels_info.dims ≡ slice_index x.source_info.dims x.axis ∷ []
   pub label_chunk : x.labels_info.chunk ≡ slice_index x.source_info.chunk x.axis ∷ []
-  pub label_bytes : info_bytes x.labels_info ≤ 2 ^ 28
+  pub label_bytes : chunk_bytes x.labels_info ≤ 2 ^ 28
   pub short : length x.made.dims ≤ 5
   pub shape : x.made.dims ≡ slice_set x.source_info.dims x.axis x.groups
   pub chunk : x.made.chunk ≡ slice_set x.source_info.chunk x.axis x.groups

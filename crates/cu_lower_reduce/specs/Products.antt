@@ -8,13 +8,13 @@ use Rattle.cu_reduce.specs.Products.{left_index, right_index}
 use Rattle.cu_op.specs.Matrix.{batch_rank, rows_of, columns_of, left_inner, right_inner, batch_grid, product_at}
 use Rattle.cu_op.specs.Aligned.{IsAligned}
 use Rattle.cu_op.specs.declared.operation.Op.TheVariants.{Mul}
-use Rattle.cu_node.specs.Info.{IsInfo}
+use Rattle.cu_node.specs.Info.{IsInfo, chunk_bytes}
 use Rattle.cu_node.specs.declared.info.NodeInfo.{NodeInfo}
 use Rattle.cu_tree.specs.Needs.{product_need}
 use Rattle.cu_tree.specs.Partials.{product_partial, product_rounds, written_before}
 use Rattle.cu_tree.specs.declared.round.Round.{Round}
 use Rattle.cu_lower_reduce.specs.Reductions.{merges}
-use Rattle.cu_lower_reduce.specs.Steps.{info_bytes, grid_of}
+use Rattle.cu_lower_reduce.specs.Steps.{grid_of}
 use Rattle.cu_lower_reduce.specs.declared.product.Product.{Product}
 use Rattle.cu_lower_reduce.specs.declared.step.Setting.{Setting}
 use Rattle.cu_lower_reduce.specs.declared.step.Step.{Step}
@@ -26,7 +26,7 @@ multiplied s x partial rs =
       op = Mul x.left x.right s.first;
       values = None;
       made = written_before rs partial x.made;
-      need = product_need s.reserved (info_bytes x.left_info) (info_bytes x.right_info) (info_bytes x.made);
+      need = product_need s.reserved (chunk_bytes x.left_info) (chunk_bytes x.right_info) (chunk_bytes x.made);
     } ∷ merges s Sum x.made s.first partial rs
 
 abbrev pub product_steps : Setting → Product → List Step
@@ -46,7 +46,7 @@ pub record IsProduct (x : Product) : Type 0 where
   pub sizes : List ℕ
   pub chunks : List ℕ
   pub left : IsInfo x.left_info
-  pub right_bytes : info_bytes x.right_info ≤ 2 ^ 28
+  pub right_bytes : chunk_bytes x.right_info ≤ 2 ^ 28
   pub made : IsInfo x.made
   pub left_rank : 1 ≤ length x.left_info.dims
   pub right_rank : 1 ≤ length x.right_info.dims

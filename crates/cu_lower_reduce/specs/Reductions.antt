@@ -7,12 +7,12 @@ use Rattle.cu_origin.specs.Pull.{has_axis}
 use Rattle.cu_origin.specs.declared.axes.Axes.{Axes}
 use Rattle.cu_op.specs.Partial.{partial_grid, IsSqueezed}
 use Rattle.cu_op.specs.declared.operation.Op.TheVariants.{Fold, Merge}
-use Rattle.cu_node.specs.Info.{IsInfo}
+use Rattle.cu_node.specs.Info.{IsInfo, chunk_bytes}
 use Rattle.cu_node.specs.declared.info.NodeInfo.{NodeInfo}
 use Rattle.cu_tree.specs.Needs.{fold_need, merge_need}
 use Rattle.cu_tree.specs.Partials.{first_partial, reduction_rounds, merged, written_before}
 use Rattle.cu_tree.specs.declared.round.Round.{Round}
-use Rattle.cu_lower_reduce.specs.Steps.{info_bytes, grid_of}
+use Rattle.cu_lower_reduce.specs.Steps.{grid_of}
 use Rattle.cu_lower_reduce.specs.declared.reduction.Reduction.{Reduction}
 use Rattle.cu_lower_reduce.specs.declared.step.Setting.{Setting}
 use Rattle.cu_lower_reduce.specs.declared.step.Step.{Step}
@@ -26,7 +26,7 @@ merges s kind made source partial (r ∷ rs) =
       op = Merge kind r.axis s.split_every source (source + 1);
       values = None;
       made = written_before rs (merged r partial) made;
-      need = merge_need s.reserved s.split_every (info_bytes made);
+      need = merge_need s.reserved s.split_every (chunk_bytes made);
     } ∷ merges s kind made (source + 1) (merged r partial) rs
 
 -- the fold, and the merges
@@ -36,7 +36,7 @@ folded s x partial rs =
       op = Fold x.kind x.axes x.source s.first;
       values = None;
       made = written_before rs partial x.made;
-      need = fold_need s.reserved (info_bytes x.from) (info_bytes x.made);
+      need = fold_need s.reserved (chunk_bytes x.from) (chunk_bytes x.made);
     } ∷ merges s x.kind x.made s.first partial rs
 
 abbrev pub reduction_steps : Setting → Reduction → List Step

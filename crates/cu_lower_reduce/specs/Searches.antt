@@ -8,14 +8,14 @@ use Rattle.cu_reduce.specs.Groups.{HasElements}
 use Rattle.cu_op.specs.Places.{HasPlaceAxis}
 use Rattle.cu_op.specs.Partial.{partial_grid, IsSqueezed}
 use Rattle.cu_op.specs.declared.operation.Op.TheVariants.{PairFold, PairMerge}
-use Rattle.cu_node.specs.Info.{IsInfo}
+use Rattle.cu_node.specs.Info.{IsInfo, chunk_bytes}
 use Rattle.cu_node.specs.declared.info.NodeInfo.{NodeInfo}
 use Rattle.cu_tree.specs.Marks.{sought_axes}
 use Rattle.cu_tree.specs.Needs.{pair_fold_need, pair_merge_need}
 use Rattle.cu_tree.specs.Partials.{first_partial, reduction_rounds, merged, written_before}
 use Rattle.cu_tree.specs.declared.round.Round.{Round}
 use Rattle.cu_lower_reduce.specs.Reductions.{whole_groups}
-use Rattle.cu_lower_reduce.specs.Steps.{info_bytes, grid_of}
+use Rattle.cu_lower_reduce.specs.Steps.{grid_of}
 use Rattle.cu_lower_reduce.specs.declared.search.Search.{Search}
 use Rattle.cu_lower_reduce.specs.declared.step.Setting.{Setting}
 use Rattle.cu_lower_reduce.specs.declared.step.Step.{Step}
@@ -43,7 +43,7 @@ pair_merges s x source values places (r ∷ rs) =
       op = PairMerge x.least r.axis s.split_every source (source + 1) (stored rs (source + 2)) (places_number rs (source + 2));
       values = stored rs (merged r values);
       made = written_before rs (merged r places) x.made;
-      need = pair_merge_need s.reserved s.split_every (value_chunk_bytes x) (info_bytes x.made);
+      need = pair_merge_need s.reserved s.split_every (value_chunk_bytes x) (chunk_bytes x.made);
     } ∷ pair_merges s x (source + 2) (merged r values) (merged r places) rs
 
 -- the search in chunks, and the merges
@@ -53,7 +53,7 @@ pairs_found s x values places rs =
       op = PairFold x.least x.axis x.source (stored rs s.first) (places_number rs s.first);
       values = stored rs values;
       made = written_before rs places x.made;
-      need = pair_fold_need s.reserved (info_bytes x.from) (value_chunk_bytes x) (info_bytes x.made);
+      need = pair_fold_need s.reserved (chunk_bytes x.from) (value_chunk_bytes x) (chunk_bytes x.made);
     } ∷ pair_merges s x s.first values places rs
 
 abbrev pub search_steps : Setting → Search → List Step

@@ -1,8 +1,7 @@
 -- The steps that a node adds to a plan, and what they keep over the arrays of the plan (this project's own rule).
-use Rattle.std.specs.Prelude.{◌≡◌, ◌⊎◌, ℕ, ◌+◌, ◌-◌, ◌*◌, ◌<◌, ◌≤◌, List, [], ◌∷◌, ◌++◌, All, Contains, length, flat_map, sum_by, Option, None, Some}
+use Rattle.std.specs.Prelude.{◌≡◌, ◌⊎◌, ℕ, ◌+◌, ◌-◌, ◌<◌, ◌≤◌, List, [], ◌∷◌, ◌++◌, All, Contains, length, flat_map, sum_by, Option, None, Some}
 use Rattle.std.specs.List.{range_with_len}
 pub use Rattle.cu_tree.specs.Needs.{with_merges}
-use Rattle.cu_num.specs.Dtype.{size_of}
 use Rattle.cu_shape.specs.Counts.{counts_of}
 use Rattle.cu_shape.specs.Index.{product}
 use Rattle.cu_grid.specs.Grid.{RegularGrid}
@@ -31,10 +30,6 @@ made_infos s = with_values s.values s.made
 
 abbrev pub all_made : List Step → List NodeInfo
 all_made steps = flat_map made_infos steps
-
--- the bytes of a chunk
-abbrev pub info_bytes : NodeInfo → ℕ
-info_bytes i = product i.chunk * size_of i.dtype
 
 abbrev pub grid_of : NodeInfo → RegularGrid
 grid_of i = record { shape = i.dims; chunk = i.chunk }

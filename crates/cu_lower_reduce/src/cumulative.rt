@@ -6,7 +6,7 @@ ghost use Rattle.cu_tree.specs.Sums.{AreSumRounds};
 ghost use Rattle.cu_tree.specs.Partials.{IsMiddle};
 ghost use Rattle.cu_lower_reduce.specs.Cumulative.{cumulative_steps, sum_carries, sum_merges, summed_step, scanned_step, carry_before, first_carry, IsCumulative};
 ghost use Rattle.cu_lower_reduce.specs.Partials.{partial_after, IsSetting};
-ghost use Rattle.cu_lower_reduce.specs.Steps.{info_bytes};
+ghost use Rattle.cu_node.specs.Info.{chunk_bytes};
 
 use crate::merges::bytes_of;
 use crate::step::{Setting, Step};
@@ -74,7 +74,7 @@ pub fn cumulative_step(s: &Setting, x: &Cumulative, at: u32) -> Step
 fn lone_scan(s: &Setting, x: &Cumulative) -> Step
     requires setting { IsSetting s.now }
     requires cumulative { IsCumulative x.now }
-    ensures { result ≡ scanned_step x.now None s.now.first (fold_need s.now.reserved (info_bytes x.now.from) (info_bytes x.now.made)) }
+    ensures { result ≡ scanned_step x.now None s.now.first (fold_need s.now.reserved (chunk_bytes x.now.from) (chunk_bytes x.now.made)) }
 {
     let from = bytes_of(&x.from.chunk, x.from.dtype);
     let made = bytes_of(&x.made.chunk, x.made.dtype);
@@ -196,7 +196,7 @@ fn scanned_step(s: &Setting, x: &Cumulative, sums: &NodeInfo, count: u32) -> Ste
     requires cumulative { IsCumulative x.now }
     requires sums { IsMiddle sums.now }
     requires few { count ≤ 15 }
-    ensures { result ≡ scanned_step x.now (Some (s.now.first + count + 1 + count)) (s.now.first + count + 1 + count + 1) (product_need s.now.reserved (info_bytes x.now.from) (info_bytes sums.now) (info_bytes x.now.made)) }
+    ensures { result ≡ scanned_step x.now (Some (s.now.first + count + 1 + count)) (s.now.first + count + 1 + count + 1) (product_need s.now.reserved (chunk_bytes x.now.from) (chunk_bytes sums.now) (chunk_bytes x.now.made)) }
 {
     let from = bytes_of(&x.from.chunk, x.from.dtype);
     let carried = bytes_of(&sums.chunk, sums.dtype);

@@ -6,7 +6,7 @@ ghost use Rattle.cu_shape.specs.Index.{product};
 ghost use Rattle.cu_tree.specs.Partials.{written_before, AreMerges};
 ghost use Rattle.cu_lower_reduce.specs.Partials.{partial_after, IsSetting};
 ghost use Rattle.cu_lower_reduce.specs.Reductions.{merges};
-ghost use Rattle.cu_lower_reduce.specs.Steps.{info_bytes};
+ghost use Rattle.cu_node.specs.Info.{chunk_bytes};
 
 use crate::step::{Setting, Step};
 use cu_node::NodeInfo;
@@ -58,7 +58,7 @@ pub(crate) fn merge_step(
     at: u32,
 ) -> Step
     requires setting { IsSetting s.now }
-    requires bytes { info_bytes made.now ≤ 2 ^ 28 }
+    requires bytes { chunk_bytes made.now ≤ 2 ^ 28 }
     requires rounds { AreMerges partial.now rounds.now }
     requires few { length rounds.now ≤ 24 }
     requires within { at < length rounds.now }

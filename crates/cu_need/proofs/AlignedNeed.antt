@@ -6,13 +6,13 @@ use Rattle.std.proofs.lemmas.List.Sums.{sum_by-cons}
 use Rattle.std.proofs.lemmas.Slice.Eq.{bytes_eq-Decides}
 use Rattle.cu_form.specs.declared.args.Arg.{Arg}
 use Rattle.cu_form.specs.declared.form.Form.{Form}
-use Rattle.cu_node.specs.Info.{info_at}
+use Rattle.cu_node.specs.Info.{info_at, chunk_bytes}
 use Rattle.cu_node.specs.declared.element_op.ElementOp.{ElementOp}
 use Rattle.cu_node.specs.declared.info.NodeInfo.{NodeInfo}
 use Rattle.cu_num.specs.Dtype.{size_of}
 use Rattle.cu_shape.specs.Index.{product}
 use Rattle.cu_typing.specs.Joined.{aligned_chunk}
-use Rattle.cu_need.specs.Chunks.{arrays_in, chunk_bytes, aligned_bytes, is_aligned}
+use Rattle.cu_need.specs.Chunks.{arrays_in, aligned_bytes, is_aligned}
 use Rattle.cu_copy.specs.Copies.{is_misaligned, rechunk_need}
 use Rattle.cu_need.specs.Elementwise.{are_aligned, own_instructions, function_need}
 use Rattle.cu_need.specs.Need.{need_of}

@@ -8,10 +8,10 @@ use Rattle.cu_typing.specs.Along.{summed_axis, labels_aligned}
 use Rattle.cu_tree.specs.Needs.{with_merges, merge_need, product_need}
 use Rattle.cu_tree.specs.Partials.{product_rounds}
 pub use Rattle.cu_tree.specs.Sums.{sums_array, sums_arrays, sums_count, cumulative_need, cumulative_chunks}
-use Rattle.cu_need.specs.Chunks.{chunk_bytes}
 use Rattle.cu_need.specs.Reduction.{matmul_chunks}
 use Rattle.cu_copy.specs.Copies.{in_chunks, rechunked}
 use Rattle.cu_copy.specs.declared.copies.Rechunk.{Rechunk}
+use Rattle.cu_node.specs.Info.{chunk_bytes}
 
 -- ---- prefix sums, whose arrays of sums, memory and chunks are told of where their rounds are
 

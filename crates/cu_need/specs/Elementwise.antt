@@ -5,8 +5,9 @@ use Rattle.std.specs.List.{list_all}
 use Rattle.cu_node.specs.declared.element_op.ElementOp.{ElementOp}
 use Rattle.cu_node.specs.declared.element_op.ElementOp.TheVariants.{Extreme, Clip}
 use Rattle.cu_node.specs.declared.info.NodeInfo.{NodeInfo}
-use Rattle.cu_need.specs.Chunks.{chunk_bytes, aligned_bytes, is_aligned}
+use Rattle.cu_need.specs.Chunks.{aligned_bytes, is_aligned}
 use Rattle.cu_shape.specs.Counts.{largest}
+use Rattle.cu_node.specs.Info.{chunk_bytes}
 
 -- each argument's array has the chunk to which it is aligned
 abbrev pub are_aligned : NodeInfo → List NodeInfo → Bool

@@ -7,7 +7,7 @@ use Rattle.cu_shape.specs.Index.{product}
 use Rattle.cu_origin.specs.declared.axes.Axes.{Axes}
 use Rattle.cu_form.specs.declared.args.Arg.{Arg}
 use Rattle.cu_node.specs.Axes.{axis_of}
-use Rattle.cu_node.specs.Info.{info_at, no_info}
+use Rattle.cu_node.specs.Info.{info_at, no_info, chunk_bytes}
 use Rattle.cu_node.specs.declared.info.NodeInfo.{NodeInfo}
 use Rattle.cu_num.specs.declared.types.Dtype.TheVariants.{Int64}
 use Rattle.cu_typing.specs.Joined.{aligned_chunk}
@@ -16,7 +16,6 @@ use Rattle.cu_typing.specs.Reduction.{marks_of}
 use Rattle.cu_tree.specs.Marks.{marked_axes, sought_axes}
 use Rattle.cu_tree.specs.Needs.{with_merges, fold_need, merge_need, pair_fold_need, pair_merge_need, product_need}
 use Rattle.cu_tree.specs.Partials.{first_partial, reduction_rounds, product_partial, product_rounds, chunks_written, chunks_before}
-use Rattle.cu_need.specs.Chunks.{chunk_bytes}
 use Rattle.cu_copy.specs.Copies.{rechunked}
 use Rattle.cu_copy.specs.declared.copies.Rechunk.{Rechunk}
 

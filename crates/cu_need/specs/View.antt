@@ -3,8 +3,8 @@
 use Rattle.std.specs.Prelude.{ℕ, ◌+◌, Bool, true, false, List, ◌∷◌, map}
 use Rattle.cu_form.specs.declared.form.Form.{Form}
 use Rattle.cu_node.specs.declared.info.NodeInfo.{NodeInfo}
-use Rattle.cu_need.specs.Chunks.{chunk_bytes}
 use Rattle.cu_shape.specs.Counts.{largest}
+use Rattle.cu_node.specs.Info.{chunk_bytes}
 
 -- The form is a view, or an array that is made from nothing: each element of the result is one of a source, or a number that the index
 -- tells. The same elements in other chunks are a copy, and no view.

@@ -19,6 +19,10 @@ no_info = info_of Bool [] []
 abbrev pub info_at : List NodeInfo → ℕ → NodeInfo
 info_at infos k = get_or infos k no_info
 
+-- the bytes of a chunk
+abbrev pub chunk_bytes : NodeInfo → ℕ
+chunk_bytes i = product i.chunk * size_of i.dtype
+
 -- What each node's array keeps (this project's limits): a chunk size for each axis, none of them 0, at most 6 axes, 2^40
 -- elements, 65,536 chunks and 2^28 bytes a chunk, an axis of size 0 counting as one element and one chunk.
 pub record IsInfo (i : NodeInfo) : Type 0 where

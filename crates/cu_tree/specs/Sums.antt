@@ -3,9 +3,7 @@
 -- For each there is an array of what comes before each of its sums. `made` and `source` tell of the node's array and of its argument's.
 use Rattle.std.specs.Prelude.{◌≡◌, ℕ, zero, suc, ◌+◌, ◌*◌, ◌<◌, ◌≤◌, nat_lt, if◌then◌else◌, max, List, [], ◌∷◌, length, slice_index, slice_set, sum_by, Some}
 use Rattle.std.specs.Int.{div_ceil}
-use Rattle.cu_num.specs.Dtype.{size_of}
-use Rattle.cu_shape.specs.Index.{product}
-use Rattle.cu_node.specs.Info.{IsInfo}
+use Rattle.cu_node.specs.Info.{IsInfo, chunk_bytes}
 use Rattle.cu_node.specs.declared.info.NodeInfo.{NodeInfo}
 use Rattle.cu_tree.specs.Marks.{sought_axes}
 use Rattle.cu_tree.specs.Needs.{fold_need, merge_need, product_need}
@@ -42,10 +40,6 @@ abbrev pub sums_arrays : ℕ → ℕ → ℕ → NodeInfo → List NodeInfo
 sums_arrays split_every axis most sums = sums_from sums (sum_rounds split_every axis most (slice_index sums.dims axis))
 
 -- ---- memory and chunks
-
--- the bytes of a chunk
-abbrev pub chunk_bytes : NodeInfo → ℕ
-chunk_bytes i = product i.chunk * size_of i.dtype
 
 -- a carry of a group of sums, and of what is above them
 abbrev pub carry_need : ℕ → ℕ → ℕ → ℕ

@@ -5,7 +5,8 @@ ghost use Rattle.arrayvec.specs.ArrayVec.{array_vec_len};
 ghost use Rattle.cu_shape.specs.Counts.{counts_of, at_least_one};
 ghost use Rattle.cu_shape.specs.Index.{product};
 ghost use Rattle.cu_tree.specs.Partials.{chunks_of, IsMiddle};
-ghost use Rattle.cu_tree.specs.Sums.{sums_array, sums_count, sum_rounds, cumulative_rounds, sums_from, chunk_bytes, carry_need, cumulative_need, cumulative_chunks, AreSumRounds, IsSummed};
+ghost use Rattle.cu_tree.specs.Sums.{sums_array, sums_count, sum_rounds, cumulative_rounds, sums_from, carry_need, cumulative_need, cumulative_chunks, AreSumRounds, IsSummed};
+ghost use Rattle.cu_node.specs.Info.{chunk_bytes};
 
 use crate::marks::sought_axes;
 use crate::needs::{fold_need, merge_need, product_need};

@@ -1,9 +1,10 @@
 use Rattle.std.proofs.Common.{◌≡◌, ◌≤◌, ◌+◌, ◌*◌, ◌^◌, true, max, map, drop}
 use Rattle.std.specs.Prelude.{sum_by}
 use Rattle.cu_typing.specs.Joined.{aligned_within}
-use Rattle.cu_need.specs.Chunks.{arrays_in, chunk_bytes, aligned_bytes}
+use Rattle.cu_need.specs.Chunks.{arrays_in, aligned_bytes}
 use Rattle.cu_need.proofs.elementwise.function_need.Given as goal
 use Rattle.cu_shape.specs.Counts.{largest}
+use Rattle.cu_node.specs.Info.{chunk_bytes}
 
 -- the arrays that are left add theirs
 abbrev pub invariant-loop-arg : goal.invariant-loop-arg

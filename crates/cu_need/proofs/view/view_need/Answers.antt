@@ -1,8 +1,8 @@
 use Rattle.std.proofs.Common.{◌+◌, ◌≤◌, ◌^◌, ℕ, List, drop, map, max, ap, sym, subst, ◌∙◌}
 use Rattle.cu_shape.specs.Counts.{largest}
-use Rattle.cu_node.specs.Info.{info_at}
+use Rattle.cu_node.specs.Info.{info_at, chunk_bytes}
 use Rattle.cu_node.specs.declared.info.NodeInfo.{NodeInfo}
-use Rattle.cu_need.specs.Chunks.{arrays_in, chunk_bytes}
+use Rattle.cu_need.specs.Chunks.{arrays_in}
 use Rattle.cu_need.proofs.LoopSteps.{node_next, other_next, array_most, most_small}
 use Rattle.cu_need.proofs.view.view_need.Goals as goal
 use Rattle.cu_need.proofs.view.view_need.Goals.{in-Node, in_default}

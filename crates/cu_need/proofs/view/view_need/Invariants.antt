@@ -1,7 +1,8 @@
 use Rattle.std.proofs.Common.{◌≡◌, ◌≤◌, ◌^◌, max, map, drop}
-use Rattle.cu_need.specs.Chunks.{arrays_in, chunk_bytes}
+use Rattle.cu_need.specs.Chunks.{arrays_in}
 use Rattle.cu_need.proofs.view.view_need.Given as goal
 use Rattle.cu_shape.specs.Counts.{largest}
+use Rattle.cu_node.specs.Info.{chunk_bytes}
 
 -- the arrays that are left add theirs
 abbrev pub invariant-loop-arg : goal.invariant-loop-arg
