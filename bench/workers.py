@@ -1,11 +1,12 @@
 #!/usr/bin/env python3
 """Computes with one worker, with several workers, and with Dask by as many threads over the same chunk files, in one run.
 
-  workers.py [--program FILE] [--dir FOLDER].. [--runs N] [--workers N] [--python FILE] [--mebibytes N] [--only WORD..]
+  workers.py [--program FILE] [--dir FOLDER].. [--runs N] [--workers N] [--fusion 1|2] [--python FILE] [--mebibytes N] [--only WORD..]
 
 The works: an addition in chunks of 1 MiB, `(a*2 + b) > c` in chunks of 4 MiB, a sum over an axis, the sums up to each place along the
-first axis and along the last, a change from columns to rows in 64 MiB, and a product of matrices. Then additions in 16,384 chunks of 1 KiB with the program alone. The program syncs each file before its
-rename, Dask writes as zarr does, without a sync. Which comes first changes at each round, and what all store is compared byte by byte.
+first axis and along the last, a change from columns to rows in 64 MiB, and a product of matrices; with `--fusion 2` also the works of
+bench/day.py over its days. Then additions in 16,384 chunks of 1 KiB with the program alone. The program syncs each file before its rename,
+Dask writes as zarr does, without a sync. Which comes first changes at each round, and what all store is compared byte by byte.
 
 It prints the least times and the greatest resident memory of each, how many times as fast several workers are as one and as Dask (whose
 time is without Python's start), by the least times and round by round, and last which of the aims were missed. It does so in memory,
@@ -30,6 +31,8 @@ from stored import GNU_TIME, MIB, PROGRAM, can_import, folders, link_as_version_
 ONE, MANY, DASK = "one worker", "workers", "Dask"
 # By how many times the workers are to be faster than one worker, than one with small tasks, and than Dask.
 AIM, SMALL_AIM, DASK_AIM = 3.2, 2.0, 0.9
+# Of a day's work: at most 0.9 of Dask's time.
+DAY_AIM = 1 / 0.9
 TYPES = {"int32": "<i4", "int64": "<i8"}
 
 
@@ -43,10 +46,31 @@ class Work:
     def __init__(self, inputs, shape, chunk, nodes, by_dask, words=(), dtype="int32"):
         self.inputs, self.shape, self.chunk, self.dtype = inputs, shape, chunk, dtype
         self.nodes, self.by_dask, self.words = nodes, by_dask, list(words)
+        self.aims = {ONE: AIM, DASK: DASK_AIM}
 
     def expression(self):
         given = [{"id": name, "op": "input", "name": name} for name in self.inputs]
         return json.dumps({"nodes": given + self.nodes, "out": self.nodes[-1]["id"], "store_as": "y"})
+
+
+class DayWork:
+    """A work of bench/day.py."""
+
+    def __init__(self, work):
+        self.work, self.inputs, self.words, self.by_dask = work, work.names, work.words, work.by_dask
+        self.aims = {DASK: DAY_AIM}
+
+    def expression(self):
+        return self.work.expression()
+
+
+def works_of(given):
+    """The works, by their names."""
+    found = works(given.mebibytes)
+    if given.fusion == 2:
+        import day  # day.py, in this folder, which takes what is measured of a way from here
+        found.update((name, DayWork(work)) for name, work in day.WORKS.items())
+    return found
 
 
 def works(mebibytes):
@@ -68,6 +92,10 @@ def works(mebibytes):
 
 def make_inputs(folder, work):
     """Stores arrays of numbers that differ from chunk to chunk, and links them for a zarr that reads version 2 alone."""
+    if isinstance(work, DayWork):
+        import day
+        day.make_inputs(folder, day.DAYS)
+        return
     import numpy
     counts = [-(-length // part) for length, part in zip(work.shape, work.chunk)]
     rng = numpy.random.default_rng(1)
@@ -116,10 +144,10 @@ def times_as_fast(fast, slow):
 
 
 def ways_of(given, folder, name, work):
-    run = [given.program, folder, "run", *work.words]
+    run = [given.program, folder, "run", *work.words, *(["--fusion", str(given.fusion)] if given.fusion > 1 else [])]
     ways = {ONE: run, MANY: [*run, "--workers", str(given.workers)]}
     if given.has_dask:
-        peer = ["--peer", name, folder, "--workers", str(given.workers), "--mebibytes", str(given.mebibytes)]
+        peer = ["--peer", name, folder, "--workers", str(given.workers), "--mebibytes", str(given.mebibytes), "--fusion", str(given.fusion)]
         ways[DASK] = [given.python, os.path.abspath(__file__), *peer]
     return ways
 
@@ -140,18 +168,19 @@ def measure(given, folder, name, work):
     return told
 
 
-def tell(given, name, told):
+def tell(given, name, work, told):
     """Prints what was measured of one work. Returns the aims that it missed."""
     print(f"  {name}:", flush=True)
     for way, one in told.items():
         print(f"    {f'{given.workers} workers' if way == MANY else f'{DASK}, {given.workers} threads' if way == DASK else way}: {one.row()}")
     missed = []
-    for way, aim in ((ONE, AIM), (DASK, DASK_AIM)):
+    for way in (ONE, DASK):
         if way in told:
             least, median = times_as_fast(told[MANY], told[way])
-            print(f"    {given.workers} workers beside {way}: {least:.2f} times as fast (median of the rounds {median:.2f}; aim {aim})", flush=True)
+            aim = work.aims.get(way, 0)
+            print(f"    {given.workers} workers beside {way}: {least:.2f} times as fast (median of the rounds {median:.2f}{f'; aim {aim:.3g}' if aim else ''})", flush=True)
             if least < aim:
-                missed.append(f"{name} beside {way}: {least:.2f} for {aim}")
+                missed.append(f"{name} beside {way}: {least:.2f} for {aim:.3g}")
     return missed
 
 
@@ -159,12 +188,12 @@ def measure_in(given, parent):
     """Measures all works in a folder. Returns the aims that were missed."""
     print(f"in {parent}, load {os.getloadavg()[0]:.1f}:", flush=True)
     missed, beside_dask = [], []
-    for name, work in works(given.mebibytes).items():
+    for name, work in works_of(given).items():
         if given.only and not any(word in name for word in given.only):
             continue
         with tempfile.TemporaryDirectory(dir=parent, prefix="cubed-bench-") as folder:
             told = measure(given, folder, name, work)
-        missed += tell(given, name, told)
+        missed += tell(given, name, work, told)
         if DASK in told:
             beside_dask.append(times_as_fast(told[MANY], told[DASK])[0] > 1)
     if not given.only or "small" in given.only:
@@ -183,6 +212,7 @@ def main():
     words.add_argument("--dir", action="append", help="a folder to measure in, as often as wanted")
     words.add_argument("--runs", type=int, default=5, help="how many rounds")
     words.add_argument("--workers", type=int, default=4, help="how many workers, and threads of Dask")
+    words.add_argument("--fusion", type=int, choices=[1, 2], default=1, help="the version of the program's plans")
     words.add_argument("--python", default=sys.executable, help="the Python that has NumPy, Dask and zarr")
     words.add_argument("--mebibytes", type=int, default=256, help="the size of each input")
     words.add_argument("--only", nargs="*", help="the works whose names have one of these words, and `small`")
@@ -190,7 +220,7 @@ def main():
     given = words.parse_args()
     if given.peer:
         name, folder = given.peer
-        print(by_dask(folder, works(given.mebibytes)[name], given.workers))
+        print(by_dask(folder, works_of(given)[name], given.workers))
         return
     given.program = os.path.abspath(given.program)
     see_that_it_is_built(given.program)

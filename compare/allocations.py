@@ -125,7 +125,9 @@ class Row:
 def rows(counts):
     options = ["--allowed-mem", "2000"]
     ran = [(["run", *options], SEVERAL)]
+    fused = ["--fusion", "2"]
     yield Row("plan", ["plan", *options], SEVERAL)
+    yield Row("plan with inlined arrays", ["plan", *options, *fused], SEVERAL)
     yield Row("load", ["load"], ARRAY)
     yield Row("print", ["print", "a"])
     yield Row("check", ["check"], SEVERAL, ran)
@@ -138,6 +140,8 @@ def rows(counts):
         yield Row(f"resume by {count}", ["resume", *more], SEVERAL, [*ran, "some removed"], RECORD)
         yield Row(f"resume of a whole run by {count}", ["resume", *more], SEVERAL, ran, RECORD)
         yield Row(f"demo by {count}", ["demo", "64", "--workers", str(count)], None, (), DEMO_RECORD)
+        yield Row(f"run with inlined arrays by {count}", ["run", *more, *fused], SEVERAL, (), RECORD, ["resume", *more, *fused])
+        yield Row(f"demo with inlined arrays by {count}", ["demo", "64", "--workers", str(count), *fused], None, (), DEMO_RECORD)
 
 
 def made(folder, row, given):

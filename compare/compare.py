@@ -1,8 +1,8 @@
 #!/usr/bin/env python3
 """Computes small random expressions with the program and with NumPy, and compares each byte of what is stored, and the lines of `plan`.
 
-  compare.py [--program FILE] [--dir FOLDER] [--cases N] [--seed N] [--first N] [--only run|views|reductions|copies|any|check]
-             [--workers N,N..] [--version-2]
+  compare.py [--program FILE] [--dir FOLDER] [--cases N] [--seed N] [--first N] [--only run|views|reductions|copies|any|chains|check]
+             [--fusion 1|2] [--workers N,N..] [--version-2]
 
 A case has up to three stored arrays of any type, up to four axes (of copies six), any chunk shape, either byte order, either encoding of
 keys with either separator, members of the metadata in any order, any fill value, chunks that are absent, any bytes past the edge, and
@@ -11,7 +11,8 @@ for places, products of matrices and changes of chunks, literals, broadcast shap
 nodes that are used twice, dead nodes, inputs that are themselves the result, any count of partial results that a task merges, and memory
 with which all, some or none of the maps that could be are merged.
 `--only` says which nodes a case has most of: functions, views, reductions, copies (of up to 2,500 elements, in memory around what
-the plan needs), or any. `plan` must print what compare/rules.py says, and store nothing; what `run` must store is computed by NumPy,
+the plan needs), any, or nodes one behind the other. With `--fusion 2` the plans are those of that option, in memory in which all, some or
+none of the arrays are inlined that could be. `plan` must print what compare/rules.py says, and store nothing; what `run` must store is computed by NumPy,
 the arrays on the way too, and what it must answer is told by compare/rules.py. One case in four is damaged, in one or two of: the text,
 an argument, metadata, a chunk, a key in the way, memory, counts. Some arrays are printed too, some loaded, and the output of one run
 in five is checked by `check`. In one case of nine NumPy stores the output of an expression of every operator, now and then with one
@@ -134,8 +135,8 @@ class Input:
 class Case:
     """What the program is given: a folder, a text, and words."""
 
-    def __init__(self, pick, folder, mix, may_be_old=False):
-        self.pick, self.folder = pick, folder
+    def __init__(self, pick, folder, mix, may_be_old=False, fusion=1):
+        self.pick, self.folder, self.fusion = pick, folder, fusion
         arrays = draws.arrays_for(pick, mix)
         self.inputs = [Input(pick, folder, name, array, may_be_old) for name, array in zip("abc", arrays)]
         self.text = draws.spelled(pick, draws.random_expression(pick, self.inputs, mix.narrowed(pick)))
@@ -148,15 +149,15 @@ class Case:
 
     def fit_memory(self):
         """Allows about as much as the plan needs."""
-        plan = rules.typed_plan(self.text.encode(), self.held, self.allowed, self.reserved, self.split_every) if self.is_typed() else None
-        if plan:
+        if self.is_typed():
+            plan = self.typed_plan()
             most = max(plan.need(k) for k, live in enumerate(plan.live) if live)
             self.allowed = max(0, most + self.pick.choice([-1, 0, 0, 1, self.pick.randint(0, 64), self.pick.randint(0, most), self.pick.randint(0, most), 2 * most, ALLOWED]))
 
     def fit_maps(self):
-        """Allows about as much as an operation of the plan needs, so that some maps are merged and some aren't."""
+        """Allows about as much as an operation of the plan needs, so that some maps are merged, and some arrays inlined, and some aren't."""
         if self.is_typed():
-            plan = rules.typed_plan(self.text.encode(), self.held, self.allowed, self.reserved, self.split_every)
+            plan = self.typed_plan()
             projected = self.pick.choice([plan.projected(step) for _, step in plan.operations()])
             self.allowed = max(0, projected + self.pick.choice([-1, 0, 0, -self.pick.randint(0, 2000)]))
 
@@ -166,6 +167,9 @@ class Case:
             return True
         except rules.Refused:
             return False
+
+    def typed_plan(self):
+        return rules.typed_plan(self.text.encode(), self.held, self.allowed, self.reserved, self.split_every, self.fusion)
 
     def held(self, key):
         path = os.path.join(self.folder, key)
@@ -182,7 +186,7 @@ class Case:
         return case
 
     def plan(self):
-        return rules.plan_of(self.text.encode(), self.held, self.allowed, self.reserved, self.split_every)
+        return rules.plan_of(self.text.encode(), self.held, self.allowed, self.reserved, self.split_every, self.fusion)
 
     def damage(self):
         """Spoils something. What comes of it is for the rules to say."""
@@ -272,6 +276,8 @@ class Case:
         options = [["--allowed-mem", str(self.allowed)], ["--reserved-mem", str(self.reserved)]]
         if self.split_every != rules.SPLIT_EVERY or self.pick.random() < 0.2:
             options.append(["--split-every", str(self.split_every)])
+        if self.fusion != 1:
+            options.append(["--fusion", str(self.fusion)])
         if command == "run" and self.pick.random() < 0.5:
             options.append(["--retries", str(self.pick.randint(0, 8))])
         self.pick.shuffle(options)
@@ -334,7 +340,7 @@ def part_elements(plan, part, info, elements):
     step, node = plan.steps[k][at], plan.expr["nodes"][k]
     if step.kind == "copy":
         return elements[step.arg]
-    if at == len(plan.steps[k]) - 1:
+    if step.is_last:
         return elements[k]
     args = [elements[arg] for arg in plan.arrays(k)]
     dtype, shape, _ = info
@@ -380,7 +386,7 @@ def part_element(node, source, place, is_last, dtype):
 def expected_plan(case):
     """Returns the status and the text that must come of `plan`."""
     try:
-        return {(0, rules.counted_plan(case.text.encode(), case.held, case.allowed, case.reserved, case.split_every).lines())}
+        return {(0, rules.counted_plan(case.text.encode(), case.held, case.allowed, case.reserved, case.split_every, case.fusion).lines())}
     except rules.Refused as answer:
         return {(int(str(answer).split()[0]), f"error {answer}\n")}
 
@@ -412,10 +418,11 @@ def wrong_files(case, before, stored, is_whole):
     return f"{missing} are missing" if is_whole and missing else None
 
 
-def run_case(pick, program, folder, counts, only, workers=(), may_be_old=False):
+def run_case(pick, program, folder, counts, given):
     """Runs one case, and tells why it is wrong, or nothing."""
-    kind = only or pick.choice(["run", "run", "reductions", "views", "copies", "copies", "any", "any", "check"])
-    case = Case(pick, folder, MIXES[kind], may_be_old)
+    kinds = ["run", "run", "reductions", "views", "copies", "copies", "any", "any", "check"] + (["chains"] * 4 if given.fusion == 2 else [])
+    kind = given.only or pick.choice(kinds)
+    case = Case(pick, folder, MIXES[kind], given.version_2, given.fusion)
     if pick.random() < 0.1:
         wrong = next(filter(None, (printed_wrong(program, folder, entry) for entry in case.inputs)), None) or loaded_wrong(pick, program, folder)
         if wrong:
@@ -425,7 +432,7 @@ def run_case(pick, program, folder, counts, only, workers=(), may_be_old=False):
     if pick.random() < 0.25:
         for _ in range(pick.choice([1, 1, 1, 2])):
             case.damage()
-    return planned_wrong(case, program, counts) or worked_wrong(case, program, counts, workers) or ran_wrong(case, program, counts)
+    return planned_wrong(case, program, counts) or worked_wrong(case, program, counts, given.workers) or ran_wrong(case, program, counts)
 
 
 def called(case, words, counts, how=""):
@@ -629,13 +636,14 @@ def main():
     words.add_argument("--seed", type=int, default=1)
     words.add_argument("--first", type=int, default=0)
     words.add_argument("--only", choices=list(MIXES))
+    words.add_argument("--fusion", type=int, choices=[1, 2], default=1)
     words.add_argument("--workers", type=lambda told: [int(count) for count in told.split(",")], default=[])
     words.add_argument("--version-2", action="store_true")
     given = words.parse_args()
     counts = collections.Counter()
     for number in range(given.first, given.cases):
         folder = tempfile.mkdtemp(dir=given.dir, prefix="cubed-compare-")
-        wrong = run_case(random.Random(f"{given.seed} {number}"), os.path.abspath(given.program), folder, counts, given.only, given.workers, given.version_2)
+        wrong = run_case(random.Random(f"{given.seed} {number}"), os.path.abspath(given.program), folder, counts, given)
         if wrong:
             print(f"case {number} of seed {given.seed} in {folder}: {wrong}")
             return 1

@@ -6,7 +6,7 @@ Nothing here comes from the program. compare/rules.py uses it.
 import math
 
 from limits import SIZES
-from reductions import Step, bytes_of
+from reductions import Room, Step, bytes_of
 
 
 def max_mem(allowed, reserved):
@@ -44,6 +44,11 @@ def stages(shape, source, target, size, most):
     return read, [min(pair) for pair in zip(read, write)], write
 
 
+def copy_room(dtype, source, target, region):
+    """Returns what a task of a copy needs: its region is counted once."""
+    return Room([bytes_of(dtype, source), bytes_of(dtype, target)], bytes_of(dtype, region), 0)
+
+
 def copy_steps(arg, info, chunk, most):
     """Returns the one or two operations that copy the array of a node to other chunks, or none where a chunk has more than `most`
     bytes: then its need is more than is allowed."""
@@ -55,7 +60,7 @@ def copy_steps(arg, info, chunk, most):
     regions = [(write, chunk)] if read == write else [(read, middle), (write, chunk)]
     found = []
     for region, sides in regions:
-        room = max(bytes_of(dtype, source), bytes_of(dtype, sides)) + bytes_of(dtype, region)
-        found.append(Step("copy", [(dtype, shape, list(sides))], room, region=region, source=source, arg=arg, is_second=bool(found)))
+        found.append(Step("copy", [(dtype, shape, list(sides))], copy_room(dtype, source, sides, region), region=region, source=source, arg=arg,
+                          is_second=bool(found)))
         source = sides
     return found

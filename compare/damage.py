@@ -133,6 +133,8 @@ class Case:
         own = compare.Case(pick, self.folder, MIXES[pick.choice(["run", "views", "reductions", "copies", "any"])])
         self.inputs = own.inputs
         self.options = {"allowed-mem": own.allowed, "reserved-mem": own.reserved, "split-every": own.split_every}
+        if "fusion" in given.options["run"]:
+            self.options["fusion"] = pick.choice([1, 2])
         self.text, self.record = own.text.encode(), None
         if pick.random() < 0.7:
             self.earlier_run()
@@ -435,7 +437,7 @@ def options_of(program):
             if answer(command, "--no-such") == "error 2 code=1":
                 continue
             positional = {"print": ["z"], "demo": ["0"]}.get(command, [])
-            trials = {"allowed-mem": "1", "reserved-mem": "1", "split-every": "3", "workers": "2", "retries": "1", "backups": "1"}
+            trials = {"allowed-mem": "1", "reserved-mem": "1", "split-every": "3", "fusion": "2", "workers": "2", "retries": "1", "backups": "1"}
             found[command] = [name for name, number in trials.items() if is_option(answer, command, name, number, positional)]
     return found
 

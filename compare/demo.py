@@ -1,7 +1,7 @@
 #!/usr/bin/env python3
 """Runs `demo` at several sizes, and compares what it prints and each byte that it stores with NumPy and compare/rules.py.
 
-  demo.py [--program FILE] [--dir FOLDER] [--sizes N,N..] [--workers N,N..]
+  demo.py [--program FILE] [--dir FOLDER] [--sizes N,N..] [--workers N,N..] [--fusion 1|2]
 """
 import argparse
 import json
@@ -34,11 +34,11 @@ def inputs_of(size):
             for name, (values, chunk) in elements.items()]
 
 
-def must_be_held(size, allowed):
+def must_be_held(size, allowed, fusion):
     """Returns the plan of the run, and each file that there must be afterwards."""
     inputs = inputs_of(size)
     texts = {f"{entry.name}/zarr.json": rules.compact(entry.array.written()).encode() for entry in inputs}
-    plan = rules.counted_plan(json.dumps(EXPRESSION).encode(), texts.get, allowed, 0)
+    plan = rules.counted_plan(json.dumps(EXPRESSION).encode(), texts.get, allowed, 0, fusion=fusion)
     held = {**texts, **compare.must_be_stored(types.SimpleNamespace(inputs=inputs), plan)}
     for entry in inputs:
         for place in compare.chunks_of(entry.array):
@@ -46,11 +46,12 @@ def must_be_held(size, allowed):
     return plan, held
 
 
-def try_size(program, room, size, workers, allowed):
+def try_size(program, room, size, workers, allowed, fusion):
     """Runs the demo in a new folder, and says why it is wrong, or nothing."""
-    plan, held = must_be_held(size, allowed)
+    plan, held = must_be_held(size, allowed, fusion)
     with tempfile.TemporaryDirectory(dir=room, prefix="cubed-demo-") as folder:
         words = [program, folder, "demo", str(size), "--allowed-mem", str(allowed)] + (["--workers", str(workers)] if workers > 1 else [])
+        words += ["--fusion", str(fusion)] if fusion > 1 else []
         ended = subprocess.run(words, stdin=subprocess.DEVNULL, capture_output=True, text=True, check=False)
         a, b = (entry.elements.astype("int64") for entry in inputs_of(size))
         result = int(((a + b) * 2 - b.T).sum(axis=1).argmax())
@@ -77,11 +78,12 @@ def main():
     words.add_argument("--dir", default="/dev/shm" if os.path.isdir("/dev/shm") else tempfile.gettempdir())
     words.add_argument("--sizes", type=lambda told: [int(size) for size in told.split(",")], default=[1, 2, 4, 63, 64, 65, 512, 2048])
     words.add_argument("--workers", type=lambda told: [int(count) for count in told.split(",")], default=[1])
+    words.add_argument("--fusion", type=int, choices=[1, 2], default=1)
     given = words.parse_args()
     for size in given.sizes:
         for workers in given.workers:
             for allowed in (rules.DEFAULT, 1000000)[:1 if size > 512 else 2]:
-                wrong = try_size(given.program, given.dir, size, workers, allowed)
+                wrong = try_size(given.program, given.dir, size, workers, allowed, given.fusion)
                 if wrong:
                     print(wrong)
                     return 1

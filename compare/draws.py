@@ -288,15 +288,22 @@ def info_of(node, told):
 
 
 class Mix:
-    """How often a node is a view, one of a reduction, a product or a change of chunks, or a change of chunks; and of those whose arguments
-    aren't in the chunks that it wants, how many stay."""
+    """How often a node is a view, one of a reduction, a product or a change of chunks, or a change of chunks; of those whose arguments
+    aren't in the chunks that it wants, how many stay; and how many are drawn over the node before."""
 
-    def __init__(self, views, others, copies=0.0, askew=0.15):
-        self.views, self.others, self.copies, self.askew = views, others, copies, askew
+    def __init__(self, views, others, copies=0.0, askew=0.15, chained=0.0):
+        self.views, self.others, self.copies, self.askew, self.chained = views, others, copies, askew, chained
 
     def narrowed(self, pick):
         """Returns the mix, or in two of three cases of copies one of these almost alone, for which little memory does."""
         return Mix(0.05, 0, 0.95, 1) if self.copies >= 0.5 and pick.random() < 0.65 else self
+
+    def near(self, pick, told):
+        """Returns the nodes over which one is drawn: all, or the one before and now and then another."""
+        if not self.chained or pick.random() >= self.chained:
+            return told
+        names = list(told)
+        return {name: told[name] for name in dict.fromkeys([*([pick.choice(names)] if pick.random() < 0.4 else []), names[-1]])}
 
     def draw(self, pick):
         chance = pick.random()
@@ -307,7 +314,7 @@ class Mix:
 
 
 MIXES = {"run": Mix(0.15, 0.1), "views": Mix(0.97, 0.01), "reductions": Mix(0.15, 0.6), "check": Mix(0.35, 0.35, 0, 1),
-         "copies": Mix(0.08, 0.12, 0.5, 1), "any": Mix(0.3, 0.35, 0.1, 1)}
+         "copies": Mix(0.08, 0.12, 0.5, 1), "any": Mix(0.3, 0.35, 0.1, 1), "chains": Mix(0.3, 0.35, 0.08, 0.15, 0.85)}
 
 
 def is_aligned(node, info, told):
@@ -333,7 +340,7 @@ def random_nodes(pick, inputs, mix):
     told = {node["id"]: arrays[node["name"]].info() for node in nodes}
     for at in range(pick.randint(1, 7)):
         for _ in range(60):
-            node = mix.draw(pick)(pick, f"n{at}", told)
+            node = mix.draw(pick)(pick, f"n{at}", mix.near(pick, told))
             info = info_of(node, told)
             if type(info) is not tuple:
                 if pick.random() < 0.002:
@@ -465,5 +472,5 @@ def arrays_for(pick, mix):
     """Returns arrays for a mix of nodes."""
     if mix in (MIXES["reductions"], MIXES["any"]) and pick.random() < 0.4:
         return random_matrices(pick)
-    wide = {"copies": 0.9, "any": 0.6}.get(next(name for name in MIXES if MIXES[name] is mix), 0)
+    wide = {"copies": 0.9, "any": 0.6, "chains": 0.2}.get(next(name for name in MIXES if MIXES[name] is mix), 0)
     return random_grids(pick) if pick.random() < wide else random_arrays(pick)

@@ -1,7 +1,7 @@
 #!/usr/bin/env python3
 """Runs random expressions by 1, 4 and 16 workers over a store in memory whose calls fail at random, and looks at each end.
 
-  faults.py [--keep FOLDER | --program FILE] [--runs N] [--seed N] [--first N] [--workers N,N..] [--dir FOLDER]
+  faults.py [--keep FOLDER | --program FILE] [--runs N] [--seed N] [--first N] [--workers N,N..] [--fusion 1|2] [--dir FOLDER]
 
 The store tells nothing of what it holds, and any of its calls may fail, those of the workers too. A put that failed may land later, at a
 call of any worker, in any order. Now and then a call lacks memory, or standard input or output fails. A round begins with `run` over the
@@ -1003,11 +1003,12 @@ class Wrong(Exception):
 class Case:
     """An expression over inputs, its plan, and what must be stored."""
 
-    def __init__(self, pick, folder):
+    def __init__(self, pick, folder, fusion):
         while True:
             shutil.rmtree(folder, ignore_errors=True)
             os.mkdir(folder)
-            case = compare.Case(pick, folder, MIXES[pick.choice(["run", "views", "reductions", "copies", "any", "any"])])
+            kinds = ["run", "views", "reductions", "copies", "any", "any"] + (["chains"] * 4 if fusion == 2 else [])
+            case = compare.Case(pick, folder, MIXES[pick.choice(kinds)], fusion=fusion)
             try:
                 self.plan = case.plan()
             except rules.Refused:
@@ -1020,6 +1021,7 @@ class Case:
         self.text = case.text
         self.holds = {key: case.held(key) for key in compare.files_in(folder)}
         self.options = ["--allowed-mem", str(case.allowed), "--reserved-mem", str(case.reserved), "--split-every", str(case.split_every)]
+        self.options += ["--fusion", str(fusion)] if fusion > 1 else []
         self.keys = list(self.leaves)
         number = {key: at for at, key in enumerate(self.keys)}
         self.tasks = [[number[self.plan.part_key(k, at, which, where)] for which, where in step.written(place)]
@@ -1171,7 +1173,7 @@ def run_table(given, program, number, counts):
     pick = random.Random(f"{given.seed} {number}")
     place = tempfile.mkdtemp(prefix="cubed-faults-", dir=given.dir)
     try:
-        cases = [Case(pick, os.path.join(place, "arrays")) for _ in range(CASES)]
+        cases = [Case(pick, os.path.join(place, "arrays"), given.fusion) for _ in range(CASES)]
         rounds = [(case, [Round(pick, case, given.workers) for _ in range(ROUNDS)]) for case in cases]
         ends = ends_of(program, {"cases": [case.written(own) for case, own in rounds]}, place)
         if len(ends) != sum(len(one.steps) for _, own in rounds for one in own):
@@ -1195,6 +1197,7 @@ def main():
     words.add_argument("--dir", default="/dev/shm" if os.path.isdir("/dev/shm") else tempfile.gettempdir())
     words.add_argument("--runs", type=int, default=20000)
     words.add_argument("--workers", type=lambda told: [int(count) for count in told.split(",")], default=[1, 4, 16])
+    words.add_argument("--fusion", type=int, choices=[1, 2], default=1)
     words.add_argument("--seed", type=int, default=1)
     words.add_argument("--first", type=int, default=0)
     given = words.parse_args()

@@ -1,14 +1,15 @@
 #!/usr/bin/env python3
 """Kills runs of random expressions at random moments, goes on with `resume`, and compares all that is stored with NumPy byte by byte.
 
-  kills.py [--program FILE] [--dir FOLDER] [--kills N] [--workers N,N..] [--seed N] [--first N] [--only run|views|reductions|copies|any]
+  kills.py [--program FILE] [--dir FOLDER] [--kills N] [--workers N,N..] [--seed N] [--first N] [--only run|views|reductions|copies|any|chains]
+           [--fusion 1|2]
 
 A job is a random expression of several tasks over a folder of random arrays, as compare/compare.py has them. It is run once in a copy of
 its folder, which tells how long it takes. In the folder itself it is killed (signal 9) up to eight times, at a random moment each time,
 and called again: `resume` if the record is there, else `run`. Each call takes one of the numbers of workers and `--backups` 0 or 1 at
 random. After each kill every file of the plan must be whole and right, the record must be there if any other is, and nothing else may
 have changed but files that end in `.new` and a number. Now and then a call that must be refused comes between: a `run` over a record
-(9), a `resume` without one (15) or with other memory (14).
+(9), a `resume` without one (15), with other memory or with the other `--fusion` (14).
 
 The call that ends by itself must end with 0, and must have started each task of which a chunk was missing, and no other. Then `print`
 and `check` look at the result. Some results are removed by `drop`, killed too, and made whole again.
@@ -63,10 +64,11 @@ class Job:
         held = compare.files_in(self.case.folder)
         return sum(any(key not in held for key in cells) for cells in self.tasks)
 
-    def words(self, command, allowed=None):
+    def words(self, command, allowed=None, fusion=None):
         case = self.case
         words = [self.program, case.folder, command, "--allowed-mem", str(case.allowed if allowed is None else allowed),
                  "--reserved-mem", str(case.reserved), "--split-every", str(case.split_every)]
+        words += ["--fusion", str(fusion or case.fusion)] if fusion or case.fusion != 1 else []
         if command != "drop":
             self.count, self.backups = self.pick.choice(self.workers), self.pick.randint(0, 1)
             words += ["--workers", str(self.count), "--backups", str(self.backups)]
@@ -132,9 +134,12 @@ class Job:
         elif self.pick.random() < 0.5:
             self.must_end(self.words("run"), 9, f"error 9 key={self.keys[0]}\n")
         else:
-            other = rules.compact({**self.plan.record(), "allowed": self.case.allowed + 1})
-            place = len(os.path.commonprefix([rules.compact(self.plan.record()), other]))
-            self.must_end(self.words(self.pick.choice(["resume", "drop"]), self.case.allowed + 1), 14, f"error 14 place={place}\n")
+            command = self.pick.choice(["resume", "drop"])
+            words, other = self.words(command, self.case.allowed + 1), {"allowed": self.case.allowed + 1}
+            if self.pick.random() < 0.5:
+                words, other = self.words(command, fusion=3 - self.case.fusion), {"cubed": 4 - self.case.fusion}
+            place = len(os.path.commonprefix([rules.compact({**self.plan.record(), **changed}) for changed in ({}, other)]))
+            self.must_end(words, 14, f"error 14 place={place}\n")
         if self.held_now() != before:
             raise Wrong("a call that was refused changed the folder")
 
@@ -181,7 +186,8 @@ def new_job(pick, folder, given):
     while True:
         shutil.rmtree(folder, ignore_errors=True)
         os.mkdir(folder)
-        case = compare.Case(pick, folder, MIXES[given.only or pick.choice(["run", "views", "reductions", "copies", "any", "any"])])
+        kinds = ["run", "views", "reductions", "copies", "any", "any"] + (["chains"] * 4 if given.fusion == 2 else [])
+        case = compare.Case(pick, folder, MIXES[given.only or pick.choice(kinds)], fusion=given.fusion)
         try:
             tasks = case.plan().tasks()
         except rules.Refused:
@@ -234,6 +240,7 @@ def main():
     words.add_argument("--seed", type=int, default=1)
     words.add_argument("--first", type=int, default=0)
     words.add_argument("--only", choices=[name for name in MIXES if name != "check"])
+    words.add_argument("--fusion", type=int, choices=[1, 2], default=1)
     given = words.parse_args()
     counts, number = collections.Counter(), given.first
     while sum(counts.values()) < given.kills:

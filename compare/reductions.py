@@ -14,15 +14,31 @@ PLACES = ("argmin", "argmax")
 FOLDS = ("sum", "prod", "min", "max", "any", "all")
 
 
+class Room:
+    """What a task needs beside the bytes that are reserved: the greatest of the chunks that it reads or writes, the regions of its inputs,
+    those of its result, all in bytes, and 512 bytes for each instruction."""
+
+    def __init__(self, chunks, inputs, result, instructions=0):
+        self.scratch, self.inputs, self.result, self.instructions = max(chunks), inputs, result, instructions
+
+    def __int__(self):
+        return self.scratch + self.inputs + self.result + 512 * self.instructions
+
+
 class Step:
-    """One operation: its kind; the type, sizes and chunk sizes of the arrays that it writes; and the bytes that a task needs beside those
-    that are reserved. Of a reduction also the bounds of the parts along each axis that is reduced, by its number, and of what is carried
+    """One operation: its kind; the type, sizes and chunk sizes of the arrays that it writes; what a task needs; and whether it writes the
+    node's own array. Of a reduction also the bounds of the parts along each axis that is reduced, by its number, and of what is carried
     into these parts the same bounds; of a copy the sizes of the regions, the chunk sizes of what it reads, the node whose array is copied, and whether it goes on from another copy."""
 
-    def __init__(self, kind, arrays, room, bounds=None, region=None, source=None, arg=None, is_second=False):
-        self.kind, self.arrays, self.room = kind, arrays, room
+    def __init__(self, kind, arrays, needs, bounds=None, region=None, source=None, arg=None, is_second=False):
+        self.kind, self.arrays, self.needs, self.is_last = kind, arrays, needs, False
         self.bounds = {axis: list(cuts) for axis, cuts in (bounds or {}).items()}
         self.region, self.source, self.arg, self.is_second = region, source, arg, is_second
+
+    @property
+    def room(self):
+        """The bytes that a task needs beside those that are reserved."""
+        return int(self.needs)
 
     def grid(self):
         """Returns how many tasks there are along each axis: one for each chunk of the last array, and of a copy one for each region."""
@@ -86,6 +102,11 @@ def partial(dtype, source, bounds):
     return dtype, sizes, [1 if axis in bounds else side for axis, side in enumerate(chunk)]
 
 
+def merge_rooms(part, stages, split_every):
+    """Returns what the merges behind the first stage need: `split_every` partial chunks, also where fewer are left."""
+    return [Room([part], split_every * part, part)] * (len(stages) - 1)
+
+
 def fold_steps(node, source, made, split_every):
     """Returns the operations of a reduction."""
     _, shape, chunk = source
@@ -93,7 +114,7 @@ def fold_steps(node, source, made, split_every):
     first = partial(made[0], source, bounds)
     whole, part = bytes_of(*source[::2]), bytes_of(*first[::2])
     stages = [bounds, *rounds(bounds, split_every)]
-    rooms = [max(whole, part) + whole + part] + [part + (split_every + 1) * part] * (len(stages) - 1)
+    rooms = [Room([whole, part], whole, part)] + merge_rooms(part, stages, split_every)
     arrays = [partial(made[0], source, cuts) for cuts in stages[:-1]] + [made]
     return [Step(kind, [array], room, cuts) for kind, array, cuts, room in zip(kinds("fold", "merge", stages), arrays, stages, rooms)]
 
@@ -106,7 +127,8 @@ def place_steps(node, source, made, split_every):
     _, _, sides = partial("int64", source, bounds)
     whole, values, places = bytes_of(dtype, chunk), bytes_of(dtype, sides), bytes_of("int64", sides)
     stages = [bounds, *rounds(bounds, split_every)]
-    rooms = [max(whole, places) + whole + values + places] + [places + (split_every + 1) * (values + places)] * (len(stages) - 1)
+    both = values + places
+    rooms = [Room([whole, places], whole, both)] + [Room([places], split_every * both, both)] * (len(stages) - 1)
     pairs = [[partial(dtype, source, cuts), partial("int64", source, cuts)] for cuts in stages[:-1]] + [[made]]
     return [Step(kind, arrays, room, cuts) for kind, arrays, cuts, room in zip(kinds("pairfold", "pairmerge", stages), pairs, stages, rooms)]
 
@@ -127,14 +149,15 @@ def sum_steps(node, source, made, split_every):
     whole, own = bytes_of(dtype, chunk), bytes_of(*made[::2])
     cuts = parts_of(shape[axis], chunk[axis])
     if len(cuts) <= 2:
-        return [Step("scan", [made], max(whole, own) + whole + own)]
+        return [Step("scan", [made], Room([whole, own], whole, own))]
     stages = [{axis: found} for found in merged_to(cuts, split_every, split_every)]
     sums = [partial(made[0], source, stage) for stage in stages]
     part = bytes_of(*sums[0][::2])
-    rooms = {"fold": max(whole, part) + whole + part, "merge": part + (split_every + 1) * part, "carry": part + (split_every + 2) * part}
+    rooms = {"fold": Room([whole, part], whole, part), "merge": Room([part], split_every * part, part),
+             "carry": Room([part], (split_every + 1) * part, part)}
     up = [Step(kind, [array], rooms[kind], stage) for kind, array, stage in zip(kinds("fold", "merge", stages), sums, stages)]
     down = [Step("carry", [array], rooms["carry"], stage) for array, stage in zip(sums[::-1], stages[::-1])]
-    return [*up, *down, Step("scan", [made], max(whole, part, own) + whole + part + own)]
+    return [*up, *down, Step("scan", [made], Room([whole, part, own], whole + part, own))]
 
 
 def aligned_labels(node, args):
@@ -149,7 +172,7 @@ def group_steps(node, made, args, split_every):
     operands = [bytes_of(arg[0], sides) for arg, sides in zip(args, aligned_labels(node, args))]
     part, axis = bytes_of(dtype, chunk), axis_in(node["axis"], len(shape))
     stages = [{"labels": cuts} for cuts in merged_to(parts_of(args[0][1][axis], args[0][2][axis]), split_every, 1)]
-    rooms = [max(*operands, part) + sum(operands) + part] + [part + (split_every + 1) * part] * (len(stages) - 1)
+    rooms = [Room([*operands, part], sum(operands), part)] + merge_rooms(part, stages, split_every)
     arrays = [(dtype, [*shape, len(stage["labels"]) - 1], [*chunk, 1]) for stage in stages[:-1]] + [made]
     return [Step(kind, [array], room, stage) for kind, array, stage, room in zip(kinds("groupfold", "merge", stages), arrays, stages, rooms)]
 
@@ -171,6 +194,6 @@ def product_steps(made, args, split_every):
     operands = [bytes_of(arg[0], sides) for arg, sides in zip(args, aligned_operands(made, args))]
     part = bytes_of(dtype, chunk)
     stages = [{"inner": cuts} for cuts in merged_to(parts_of(args[0][1][-1], args[0][2][-1]), split_every, 1)]
-    rooms = [max(*operands, part) + sum(operands) + part] + [part + (split_every + 1) * part] * (len(stages) - 1)
+    rooms = [Room([*operands, part], sum(operands), part)] + merge_rooms(part, stages, split_every)
     arrays = [(dtype, [*shape, len(stage["inner"]) - 1], [*chunk, 1]) for stage in stages[:-1]] + [made]
     return [Step(kind, [array], room, stage) for kind, array, stage, room in zip(kinds("mul", "merge", stages), arrays, stages, rooms)]

@@ -1,7 +1,7 @@
 """What `plan` and `run` must answer for an expression, read anew from the public standards and this project's own rules: the text (3),
 the metadata of the inputs (8, 7), types and shapes (4), memory (5), counts (6), keys in the way (9), the operations with their
-tasks, chunks and memory, also after maps are merged, the record, the keys of the arrays that are made, and the elements of elementwise
-functions as exact whole numbers.
+tasks, chunks and memory, also after maps are merged and arrays are inlined, the record, the keys of the arrays that are made, and the
+elements of elementwise functions as exact whole numbers.
 
 Nothing here comes from the program. compare.py and tools/elementwise_cases.py use it; the first takes the elements from NumPy instead.
 """
@@ -12,13 +12,15 @@ import math
 import re
 
 from copies import copy_need, copy_steps, max_mem
+from inlined import MOST_INPUTS, MOST_INSTRUCTIONS, Closing
 from limits import MOST_CHUNK_BYTES, SIZES, aligned, broadcast, chunk_for, grid_of, is_value, limit_place, limits, promoted, size_of, whole, wrapped
 from operators import GROUPS, OTHERS, PULLS
-from reductions import FOLDS, PLACES, Step, aligned_labels, aligned_operands, bytes_of, fold_steps, group_steps, place_steps, product_steps, sum_steps
+from reductions import (FOLDS, PLACES, Room, Step, aligned_labels, aligned_operands, bytes_of, fold_steps, group_steps, place_steps, product_steps,
+                        sum_steps)
 
 NAME = re.compile(r"[A-Za-z0-9][A-Za-z0-9_.-]{0,31}\Z")
 MOST_TEXT, MOST_NODES, MOST_TASKS, MOST_CELLS = 1 << 20, 256, 1 << 16, 1 << 18
-MOST_INPUTS, MOST_INSTRUCTIONS, MOST_GROUPS = 8, 32, 1 << 16
+MOST_GROUPS = 1 << 16
 SPLIT_EVERY, DEFAULT = 4, 200000000
 
 
@@ -454,19 +456,38 @@ def other(node, args):
 # The plan
 
 class Plan:
-    """What `run` carries out: of each node its operations, the prefixes of their arrays, and what its tasks read."""
+    """What `run` carries out, with `--fusion` 1 or 2: of each node its operations, the prefixes of their arrays, and what its tasks read."""
 
-    def __init__(self, expr, metas, infos, allowed=DEFAULT, reserved=0, split_every=SPLIT_EVERY):
+    def __init__(self, expr, metas, infos, allowed=DEFAULT, reserved=0, split_every=SPLIT_EVERY, fusion=1):
         self.expr, self.metas, self.infos = expr, metas, infos
-        self.allowed, self.reserved, self.split_every = allowed, reserved, split_every
+        self.allowed, self.reserved, self.split_every, self.fusion = allowed, reserved, split_every, fusion
         self.places = {node["id"]: number for number, node in enumerate(expr["nodes"])}
         self.out = self.places[expr["out"]]
         self.live = self.marks()
         self.lowered = [k for k, node in enumerate(expr["nodes"]) if self.live[k] and (node["op"] != "input" or k == self.out)]
         self.steps = {k: self.steps_of(k) for k in self.lowered}
         self.counts = self.tasks(), self.cells()
-        self.merge_maps()
+        if fusion == 1:
+            self.merge_maps()
+        elif not any(self.too_large()):
+            self.leave_out()
         self.prefixes = dict(self.named())
+
+    def leave_out(self):
+        """Keeps the operations that a plan of `--fusion 2` has: of those that are left out, maps are merged into others, copies joined with
+        others, and arrays made where they are read. `whole` has those that are inlined too."""
+        closing = Closing(self)
+        self.closed, self.whole = closing.operations, closing.whole
+        self.steps = {k: [operation.step for operation in self.closed if operation.node == k] for k in self.lowered}
+        for operation in self.closed:
+            operation.step.needs = operation.room()
+        self.made = [k for k, steps in self.steps.items() if steps and steps[-1].is_last]
+
+    def too_large(self):
+        """Yields each live node that needs more than is allowed, and what it needs."""
+        for k, live in enumerate(self.live):
+            if live and self.need(k) > self.allowed:
+                yield k, self.need(k)
 
     def merge_maps(self):
         """Merges maps into the maps that read them: these are taken in order, and the inputs of each from first to last, as they stand
@@ -490,10 +511,10 @@ class Plan:
         instructions = self.instructions[reader] - 1 + self.instructions[maker]
         chunks = [bytes_of(self.infos[self.arrays(k)[place]][0], self.aligned_args(k)[place]) for k, place in inputs]
         result = bytes_of(*self.infos[reader][::2])
-        room = max([*chunks, result]) + sum(chunks) + result + 512 * instructions
-        if len(inputs) <= MOST_INPUTS and instructions <= MOST_INSTRUCTIONS and self.reserved + room <= self.allowed:
+        room = Room([*chunks, result], sum(chunks), result, instructions)
+        if len(inputs) <= MOST_INPUTS and instructions <= MOST_INSTRUCTIONS and self.reserved + int(room) <= self.allowed:
             self.map_inputs[reader], self.instructions[reader] = inputs, instructions
-            self.steps[reader][-1] = Step("map", [self.infos[reader]], room)
+            self.steps[reader][-1].needs = room
             self.steps[maker].pop()
             self.merged.add(maker)
 
@@ -509,7 +530,7 @@ class Plan:
         for k, steps in self.steps.items():
             for at, step in enumerate(steps):
                 for which in range(len(step.arrays)):
-                    is_own = at == len(steps) - 1 and which == len(step.arrays) - 1
+                    is_own = step.is_last and which == len(step.arrays) - 1
                     if is_own and k == self.out:
                         yield (k, at, which), self.expr["store_as"]
                         continue
@@ -520,7 +541,10 @@ class Plan:
         """Returns the operations of a node that is made: the copies, then its own."""
         most = max_mem(self.allowed, self.reserved)
         copied = [step for arg, info, chunk in self.copied(k) for step in copy_steps(arg, info, chunk, most)]
-        return copied + self.own_steps(k)
+        steps = copied + self.own_steps(k)
+        for step in steps[-1:]:
+            step.is_last = True
+        return steps
 
     def own_steps(self, k):
         """Returns the operations of a node without those that copy arrays."""
@@ -578,13 +602,17 @@ class Plan:
         node = self.expr["nodes"][k]
         return len(node["args"]) + own_instructions(node["op"])
 
+    def function_count(self, k):
+        """Returns how many instructions of the map of an elementwise node load no array."""
+        return self.instruction_count(k) - len(self.arrays(k))
+
     def room(self, k):
-        """Returns the bytes that a task of an elementwise node or of a view needs beside those that are reserved."""
+        """Returns what a task of an elementwise node or of a view needs."""
         result = bytes_of(*self.infos[k][::2])
         if self.expr["nodes"][k]["op"] in PULLS:
-            return max([bytes_of(*self.infos[arg][::2]) for arg in self.arrays(k)] + [result]) + result
+            return Room([bytes_of(*self.infos[arg][::2]) for arg in self.arrays(k)] + [result], 0, result)
         args = [bytes_of(self.infos[arg][0], chunk) for arg, chunk in zip(self.arrays(k), self.aligned_args(k))]
-        return max([*args, result]) + sum(args) + result + 512 * self.instruction_count(k)
+        return Room([*args, result], sum(args), result, self.instruction_count(k))
 
     def need(self, k):
         """Returns the bytes that a node needs."""
@@ -626,11 +654,19 @@ class Plan:
         if self.expr["nodes"][k]["op"] == "input":
             name = self.expr["nodes"][k]["name"]
             return self.metas[name].key(name, place)
-        return self.part_key(k, len(self.steps[k]) - 1, len(self.steps[k][-1].arrays) - 1, place)
+        at, own = next((at, step) for at, step in enumerate(self.steps[k]) if step.is_last)
+        return self.part_key(k, at, len(own.arrays) - 1, place)
 
     def part_key(self, k, at, which, place):
         """Returns the key of a chunk of an array that an operation of a node writes."""
         return f"{self.prefixes[k, at, which]}/{chunk_key('default', '/', place)}"
+
+    def array_key(self, array, place):
+        """Returns the key of a chunk of a stored array of a plan of `--fusion 2`."""
+        if array.maker is None:
+            return self.metas[array.name].key(array.name, place)
+        k = array.maker.node
+        return self.part_key(k, self.steps[k].index(array.maker.step), array.maker.writes.index(array), place)
 
     def parts(self):
         """Yields each array that is made: its node, the place of its operation, its place among those that this writes, and what is known of it."""
@@ -665,7 +701,7 @@ class Plan:
 
     def record(self):
         names = sorted({node["name"] for node in self.expr["nodes"] if node["op"] == "input"})
-        return {"allowed": self.allowed, "cubed": 2, "expr": self.expr, "inputs": {name: self.metas[name].written() for name in names},
+        return {"allowed": self.allowed, "cubed": self.fusion + 1, "expr": self.expr, "inputs": {name: self.metas[name].written() for name in names},
                 "reserved": self.reserved, "split_every": self.split_every}
 
     def array(self, k):
@@ -673,22 +709,21 @@ class Plan:
         return Array(*self.infos[k])
 
 
-def typed_plan(data, held, allowed=DEFAULT, reserved=0, split_every=SPLIT_EVERY):
+def typed_plan(data, held, allowed=DEFAULT, reserved=0, split_every=SPLIT_EVERY, fusion=1):
     """Returns a text as a plan that isn't tested yet, over what is held, or refuses it. `held` gives the bytes of a key, or nothing."""
     expr = read(data)
     metas = {}
     for node in expr["nodes"]:
         if node["op"] == "input":
             metas[node["name"]] = meta_of(node["name"], held)
-    return Plan(expr, metas, typed(expr, metas), allowed, reserved, split_every)
+    return Plan(expr, metas, typed(expr, metas), allowed, reserved, split_every, fusion)
 
 
-def counted_plan(data, held, allowed, reserved, split_every=SPLIT_EVERY):
+def counted_plan(data, held, allowed, reserved, split_every=SPLIT_EVERY, fusion=1):
     """Returns the plan of a text that `plan` prints, or refuses it."""
-    plan = typed_plan(data, held, allowed, reserved, split_every)
-    for k, live in enumerate(plan.live):
-        if live and plan.need(k) > allowed:
-            refuse(5, node=k, need=plan.need(k), allowed=allowed)
+    plan = typed_plan(data, held, allowed, reserved, split_every, fusion)
+    for k, need in plan.too_large():
+        refuse(5, node=k, need=need, allowed=allowed)
     tasks, cells = plan.counts
     if tasks > MOST_TASKS:
         refuse(6, which=1, count=tasks)
@@ -697,9 +732,9 @@ def counted_plan(data, held, allowed, reserved, split_every=SPLIT_EVERY):
     return plan
 
 
-def plan_of(data, held, allowed, reserved, split_every=SPLIT_EVERY):
+def plan_of(data, held, allowed, reserved, split_every=SPLIT_EVERY, fusion=1):
     """Returns the plan of a text that `run` carries out, or refuses it."""
-    plan = counted_plan(data, held, allowed, reserved, split_every)
+    plan = counted_plan(data, held, allowed, reserved, split_every, fusion)
     for key in plan.keys_in_the_way():
         if held(key) is not None:
             refuse(9, key=key)

@@ -82,7 +82,7 @@ class Call:
         """The tasks of the plan of the text, or nothing."""
         import tasks
         found = [self.options.get(name, OPTIONS[name][2])
-                 for name in ("allowed-mem", "reserved-mem", "split-every")]
+                 for name in ("allowed-mem", "reserved-mem", "split-every", "fusion")]
         return tasks.of_text(self.folder, self.text, *found) if self.text else None
 
 

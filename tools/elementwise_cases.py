@@ -870,16 +870,18 @@ def case_text(case):
 
 
 def options_of(words):
-    """Returns the memory that words allow and set aside and how many partial results are merged, or nothing where they are refused."""
-    told = dict(zip(words[1::2], words[2::2]))
+    """Returns the memory that words allow and set aside, how many partial results are merged and the number of `--fusion`, or nothing where
+    they are refused."""
+    parts = [part for word in words[1:] for part in word.split("=", 1)]
+    told = dict(zip(parts[::2], parts[1::2]))
     if "--retries" in told:
         return None
-    return int(told.get("--allowed-mem", 200000000)), int(told.get("--reserved-mem", 0)), int(told.get("--split-every", 4))
+    return int(told.get("--allowed-mem", 200000000)), int(told.get("--reserved-mem", 0)), int(told.get("--split-every", 4)), int(told.get("--fusion", 1))
 
 
 def check(name, row):
     """Compares the line of a row, and the output of `plan`, with the rules, where no call fails and they say it."""
-    if any(member in row for member in ("faults", "source_fails_at", "sink_fails_at")) or not isinstance(row["input"], (str, dict)) \
+    if any(member in row for member in ("faults", "source_fails_at", "sink_fails_at")) or not isinstance(row.get("input"), (str, dict)) \
             or "join" in row["input"] or row.get("line", "").startswith(("error 2 ", "error 13")):
         return
     told = options_of(row["words"]) if row["words"][0] in ("run", "plan") else None

@@ -1,15 +1,17 @@
 #!/usr/bin/env python3
 """Runs the parts of plans by several processes at once over one folder, and compares each result with NumPy byte by byte.
 
-usage: tools/parts_at_once.py [--program FILE] [--kills N] [--pool P] [--seed S]
+usage: tools/parts_at_once.py [--program FILE] [--kills N] [--pool P] [--seed S] [--fusion 1|2]
 
 Without --kills: two and four processes at once with parts of their own, and the same part by two and by four processes. With --kills N
-processes of random parts are killed N times, at random moments, under a pool of P at once (16), with random repeats.
+processes of random parts are killed N times, at random moments, under a pool of P at once (16), with random repeats. Without --fusion the
+plans of both versions are run.
 
 A part that comes too early (21) is tried again, as an engine does. At the end `resume` must answer 0. Of the answers of parts only 0 and 21
 may come, and none may leave a chunk that is cut short.
 """
 import argparse
+import itertools
 import json
 import os
 import random
@@ -28,6 +30,9 @@ EXPRESSIONS = {
     "copies": [{"id": "t", "op": "rechunk", "args": ["a"], "chunk": [8, 96]}, {"id": "u", "op": "multiply", "args": ["t", 3]}],
     # A view, which reads every chunk of its source.
     "turned": [{"id": "s", "op": "multiply", "args": ["a", "b"]}, {"id": "p", "op": "permute_dims", "args": ["s"], "axes": [1, 0]}],
+    # A map over a view and the last merges of a sum: with --fusion 2 its tasks wait for partial results.
+    "merged": [{"id": "f", "op": "flip", "args": ["b"], "axes": [0]}, {"id": "s", "op": "sum", "args": ["f"], "axes": [0], "keepdims": True},
+               {"id": "q", "op": "multiply", "args": ["s", "s"]}],
 }
 SHAPE, CHUNK = [96, 96], [16, 96]
 WORDS = ["--allowed-mem", "40000", "--split-every", "2"]
@@ -68,6 +73,8 @@ def wanted(name):
         return (a + b).sum(axis=1, dtype="int64")
     if name == "copies":
         return a * numpy.int32(3)
+    if name == "merged":
+        return b.sum(axis=0, keepdims=True, dtype="int64") ** 2
     return (a * b).T
 
 
@@ -90,8 +97,9 @@ def read(folder):
 class Engine:
     """An engine over one folder: what it starts, and how it goes on."""
 
-    def __init__(self, program, folder, name):
+    def __init__(self, program, folder, name, fusion):
         self.program, self.folder, self.name = program, folder, name
+        self.words = WORDS + (["--fusion", str(fusion)] if fusion > 1 else [])
         nodes = [{"id": one, "op": "input", "name": one} for one in "ab"] + EXPRESSIONS[name]
         self.text = json.dumps({"nodes": nodes, "out": nodes[-1]["id"], "store_as": "y"}).encode()
         self.answers = {}
@@ -103,7 +111,7 @@ class Engine:
     def begin(self):
         for name in "ab":
             store(self.folder, name)
-        status, out, err = self.call("begin", *WORDS)
+        status, out, err = self.call("begin", *self.words)
         assert status == 0, err
         lines = [dict(field.split("=") for field in line.split() if "=" in field) for line in out.splitlines()[:-1]]
         self.counts = [int(line["tasks"]) for line in lines]
@@ -111,7 +119,7 @@ class Engine:
 
     def start(self, op, first, end):
         """Starts a part, and returns the process."""
-        process = subprocess.Popen([self.program, self.folder, "part", *WORDS, "--op", str(op), "--from", str(first), "--to", str(end)],
+        process = subprocess.Popen([self.program, self.folder, "part", *self.words, "--op", str(op), "--from", str(first), "--to", str(end)],
                                    stdin=subprocess.PIPE, stdout=subprocess.PIPE, stderr=subprocess.PIPE)
         try:
             process.stdin.write(self.text)
@@ -131,10 +139,10 @@ class Engine:
     def finish(self):
         import numpy
 
-        status, out, err = self.call("resume", *WORDS)
+        status, out, err = self.call("resume", *self.words)
         assert status == 0, err
         assert numpy.array_equal(read(self.folder), wanted(self.name)), f"{self.name} is wrong"
-        status, again, err = self.call("resume", *WORDS)
+        status, again, err = self.call("resume", *self.words)
         assert status == 0 and " starts=0 " in again, again + err
         return out
 
@@ -194,6 +202,7 @@ def main():
     parser.add_argument("--kills", type=int, default=0)
     parser.add_argument("--pool", type=int, default=16)
     parser.add_argument("--seed", type=int, default=1)
+    parser.add_argument("--fusion", type=int, choices=[1, 2])
     given = parser.parse_args()
     try:
         import numpy  # noqa: F401
@@ -204,17 +213,15 @@ def main():
     chance = random.Random(given.seed)
     room = tempfile.mkdtemp(prefix="parts-")
     try:
-        for name in EXPRESSIONS:
+        for name, fusion in itertools.product(EXPRESSIONS, [given.fusion] if given.fusion else [1, 2]):
             for count, same in ((2, False), (4, False), (2, True), (4, True)) if not given.kills else ():
-                folder = tempfile.mkdtemp(dir=room)
-                engine = Engine(given.program, folder, name)
+                engine = Engine(given.program, tempfile.mkdtemp(dir=room), name, fusion)
                 at_once(engine, count, same)
-                print(f"{name} by {count} at once{', each part by all' if same else ''}: {sum(engine.answers.values())} parts, right")
+                print(f"{name}, version {fusion + 1}, by {count} at once{', each part by all' if same else ''}: {sum(engine.answers.values())} parts, right")
             if given.kills:
-                folder = tempfile.mkdtemp(dir=room)
-                engine = Engine(given.program, folder, name)
+                engine = Engine(given.program, tempfile.mkdtemp(dir=room), name, fusion)
                 count = killed(engine, given.kills, given.pool, chance)
-                print(f"{name}: {count} killed, {engine.answers.get(0, 0)} done, {engine.answers.get(EARLY, 0)} too early; right")
+                print(f"{name}, version {fusion + 1}: {count} killed, {engine.answers.get(0, 0)} done, {engine.answers.get(EARLY, 0)} too early; right")
     finally:
         shutil.rmtree(room)
 

@@ -403,7 +403,7 @@ def word_rows():
     text, arrays = expression(ADDED), {name: metadata_of("int32", [6], [4]) for name in "ab"}
     rows = []
     for words in accepted:
-        told = tables.options_of(words)
+        *told, _ = tables.options_of(words)
         rows.append({**planned(arrays, text, *told), "words": words})
     other = [["plan", "--retries", "2"], ["plan", "--retries"], ["plan", "--workers", "1"], ["plan", "--backups", "0"], ["plan", "y"], ["plan", "-"],
              ["plan", "--allowed-mem", "1600", "--allowed-mem", "1600"], ["plan", "--split-every", "4", "--reserved-mem", "1", "--split-every", "4"], ["plan", "--allowed-mem"],

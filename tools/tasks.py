@@ -21,6 +21,8 @@ PROGRAMS = ("cu_bin", "cubed")
 AT_WORK = ("run", "resume", "demo", "load", "begin", "part")
 # The most bytes of a process's words that are looked at.
 MOST_WORDS = 1 << 16
+# The number of --fusion for each version of a plan that a record may have.
+VERSIONS = {2: 1, 3: 2}
 
 
 class Operation:
@@ -92,7 +94,7 @@ def is_file(path):
 
 
 def of_text(folder, data, allowed=rules.DEFAULT, reserved=0, split_every=rules.SPLIT_EVERY,
-            held=None):
+            fusion=1, held=None):
     """The tasks of the plan of a text over a folder, or nothing where it has none."""
     def held_here(key):
         try:
@@ -101,7 +103,7 @@ def of_text(folder, data, allowed=rules.DEFAULT, reserved=0, split_every=rules.S
             return None
     try:
         return Tasks(folder, rules.counted_plan(data, held or held_here, allowed, reserved,
-                                                split_every))
+                                                split_every, fusion))
     except (rules.Refused, ValueError, KeyError, TypeError, IndexError, AttributeError,
             RecursionError):
         return None
@@ -116,13 +118,14 @@ def of_record(stored):
         metas = {f"{name}/zarr.json": json.dumps(value).encode()
                  for name, value in record["inputs"].items()}
         data = json.dumps(record["expr"], ensure_ascii=False, separators=(",", ":")).encode("utf-8")
-        numbers = [record[name] for name in ("allowed", "reserved", "split_every")]
+        numbers = [record[name] for name in ("allowed", "reserved", "split_every", "cubed")]
     except (OSError, Failed, ValueError, KeyError, TypeError, AttributeError, RecursionError):
         return None
     if not all(type(number) is int and 0 <= number <= 2**40
-               for number in numbers) or not 2 <= numbers[2] <= 64:
+               for number in numbers) or not 2 <= numbers[2] <= 64 or numbers[3] not in VERSIONS:
         return None
-    found = of_text(stored.folder, data, *numbers, held=metas.get)
+    *numbers, version = numbers
+    found = of_text(stored.folder, data, *numbers, VERSIONS[version], held=metas.get)
     return found if found and found.name == stored.name else None
 
 

@@ -101,12 +101,12 @@ class InFolder(unittest.TestCase):
             put(f"{self.top}/{array.key(name, (at,))}", rules.chunk_bytes(array, elements, (at,)))
         return array
 
-    def put_record(self, expression, metas):
+    def put_record(self, expression, metas, fusion=1):
         """Stores the record of the plan of an expression over inputs of these layouts, and returns
         the plan.
         """
         held = {f"{name}/zarr.json": text_of(array.written()) for name, array in metas.items()}
-        plan = rules.counted_plan(text_of(expression), held.get, rules.DEFAULT, 0)
+        plan = rules.counted_plan(text_of(expression), held.get, rules.DEFAULT, 0, fusion=fusion)
         put(f"{self.top}/_cubed/{expression['store_as']}/plan.json", text_of(plan.record()))
         return plan
 

@@ -148,6 +148,24 @@ class HowFar(InFolder):
         told = self.cubed("status", "y", status=1)
         self.assertIn("op 1 fold: 2 of 4 tasks done\nop 2 merge: 0 of 1 task done\n", told)
 
+    def test_tasks_of_plans_with_inlined_arrays_are_counted(self):
+        """The record says which version the plan has, and `remove` takes what either one stored."""
+        array = self.put_array("a", range(8), 2)
+        before = files_in(self.top)
+        for fusion, tasks in ((2, 5), (1, 9)):
+            plan = self.put_record(TWICE, {"a": array}, fusion)
+            self.assertEqual(len(plan.made_keys()), tasks)
+            put(f"{self.top}/y/zarr.json", text_of(plan.array(plan.out).written()))
+            for count in (0, 3):
+                for key in plan.made_keys()[:count]:
+                    put(f"{self.top}/{key}", b"1234")
+                self.assertIn(f"unfinished: {count} of {tasks} tasks done; a run was stopped",
+                              self.cubed("status"))
+            kind = "fold" if fusion == 2 else "map"
+            self.assertIn(f"op 0 {kind}: 3 of 4 tasks done\n", self.cubed("status", "y", status=1))
+            self.cubed("remove", "y")
+            self.assertEqual([it for it in files_in(self.top) if ".locks" not in it], before)
+
     def test_tasks_of_copies_and_searches_are_counted(self):
         """A task of a copy is done with all chunks of its region, one of a search with its values
         and its places.
@@ -173,6 +191,8 @@ class HowFar(InFolder):
         for text in (b"", b"[]", b"{}", b"\xff", json.dumps({**record, "allowed": True}).encode(),
                      json.dumps({**record, "allowed": 1}).encode(),
                      json.dumps({**record, "split_every": 1}).encode(),
+                     *[json.dumps({**record, "cubed": version}).encode()
+                       for version in (0, 1, 4, True, None, "2", [2], 2.5)],
                      json.dumps({**record, "inputs": []}).encode(),
                      json.dumps({**record, "expr": {**record["expr"], "store_as": "z"}}).encode(),
                      b" " * (1 << 23), b"[" * 100000,

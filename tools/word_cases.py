@@ -16,6 +16,7 @@ OPTIONS = {
     "allowed-mem": (0, 2**40, 200_000_000, ("plan", "run", "begin", "part", "resume", "drop", "demo")),
     "reserved-mem": (0, 2**40, 0, ("plan", "run", "begin", "part", "resume", "drop", "demo")),
     "split-every": (2, 64, 4, ("plan", "run", "begin", "part", "resume", "drop", "demo")),
+    "fusion": (1, 2, 1, ("plan", "run", "begin", "part", "resume", "drop", "demo")),
     "workers": (1, 64, 1, ("run", "resume", "demo")),
     "retries": (0, 8, 2, ("run", "begin", "part", "resume", "drop", "load", "check", "print", "demo")),
     "backups": (0, 1, 0, ("run", "resume", "demo")),
@@ -134,7 +135,7 @@ def numbers():
         for form in both("allowed-mem", value)]
     yield "small numbers with a plus and with zeros", [
         ["run", *form] for name, value in (("workers", "+1"), ("workers", "01"), ("backups", "+0"), ("backups", "00"), ("sync", "+1"), ("sync", "00"), ("sync", ""), ("sync", "-0"), ("retries", "+8"),
-            ("retries", "08"), ("split-every", "+64"), ("split-every", "002"), ("workers", ""), ("backups", ""), ("backups", "-0"))
+            ("retries", "08"), ("split-every", "+64"), ("split-every", "002"), ("fusion", "+2"), ("fusion", "02"), ("fusion", ""), ("workers", ""), ("backups", ""), ("backups", "-0"))
         for form in both(name, value)]
 
 
@@ -150,7 +151,7 @@ def forms():
             ["--op=0", "--from=0", "--to=1", "--workers=1"], ["--op=0", "--from=0", "--to=1", "--backups=0"], ["--op=0", "--from=0", "--to=1", "y"])]
     yield "options that are given twice", [
         [command, *first, *second]
-        for command, name, value in (("run", "allowed-mem", "1"), ("run", "workers", "1"), ("plan", "split-every", "4"), ("load", "retries", "2"), ("check", "retries", "0"))
+        for command, name, value in (("run", "allowed-mem", "1"), ("run", "workers", "1"), ("plan", "split-every", "4"), ("plan", "fusion", "2"), ("load", "retries", "2"), ("check", "retries", "0"))
         for first in both(name, value) for second in both(name, value)]
     yield "options without a value", [
         ["run", "--allowed-mem"], ["run", "--retries", "2", "--allowed-mem"], ["run", "--allowed-mem", "--retries", "2"],

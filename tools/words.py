@@ -19,6 +19,7 @@ OPTIONS = {
     "allowed-mem": (0, 2**40, 200_000_000, PLANS),
     "reserved-mem": (0, 2**40, 0, PLANS),
     "split-every": (2, 64, 4, PLANS),
+    "fusion": (1, 2, 1, PLANS),
     "workers": (1, 64, 1, ("run", "resume", "demo")),
     "retries": (0, 8, 2, ("run", "begin", "part", "resume", "drop", "load", "check", "print", "demo")),
     "backups": (0, 1, 0, ("run", "resume", "demo")),

@@ -7,14 +7,13 @@ from __future__ import annotations
 
 import queue
 import re
-from typing import TYPE_CHECKING, Any, Callable, Mapping, NamedTuple, Optional
+from typing import TYPE_CHECKING, Any, Callable, Mapping, NamedTuple, Optional, Sequence
 
 from ._part import Ended, run_part
 from .errors import NotReady, Stopped, error_of
 
 if TYPE_CHECKING:
     from ._nodes import Graph
-    from ._store import Store
 
 # The seconds that a part is meant to take, the tasks of the first parts, and how many parts wait or run at once.
 SECONDS = 3.0
@@ -63,8 +62,8 @@ class Engine:
 
     Parameters
     ----------
-    store : Store
-        The store of the run.
+    words : sequence of str
+        The words of a part, without its operation and its tasks.
     graph, name : Graph, str
         The expression, and the name of its result.
     executor : object
@@ -75,8 +74,8 @@ class Engine:
         Is told how many tasks are done.
     """
 
-    def __init__(self, store: Store, graph: Graph, name: str, executor: Any, paths: Mapping[str, str], tell: Callable[[int], None]) -> None:
-        program, folder, *rest = store.words("part")
+    def __init__(self, words: Sequence[str], graph: Graph, name: str, executor: Any, paths: Mapping[str, str], tell: Callable[[int], None]) -> None:
+        program, folder, *rest = words
         self.words = [mapped(program, paths), mapped(folder, paths), *rest]
         self.text, self.expression_of = graph.text(name), graph.expression
         self.executor, self.tell = executor, tell

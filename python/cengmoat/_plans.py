@@ -1,17 +1,18 @@
 """What a run would do, and what it did: operations with their tasks, memory and bytes, as tables."""
 from __future__ import annotations
 
+import itertools
 import re
 from dataclasses import dataclass
 from html import escape
-from typing import Iterator, NamedTuple, Optional, Sequence
+from typing import Iterator, NamedTuple, Optional
 
 from ._dtypes import DType
 from ._nodes import Graph, Node, expression
 from ._shapes import Shape, numblocks, product
 from ._show import table_html, table_text
 from ._sizes import bytes_text
-from ._stages import copied_args, copies_of
+from ._stages import left_stages
 
 
 class Report(NamedTuple):
@@ -138,8 +139,19 @@ def _chunk_bytes(kind: str, node: Node, tasks: int, cells: int) -> int:
     return cells * node.chunk_bytes
 
 
+class _Row(NamedTuple):
+    """A line of a plan: an operation, its kind, its node, its tasks, the chunks that they store, and the bytes that a task needs."""
+
+    number: int
+    kind: str
+    node: int
+    tasks: int
+    stored: int
+    memory: int
+
+
 class _Reads:
-    """Tells what each operation reads, in the order in which they run.
+    """Tells what each operation reads, in the order in which they run, through all that is computed within its tasks.
 
     Parameters
     ----------
@@ -151,53 +163,69 @@ class _Reads:
 
     def __init__(self, graph: Graph, most: int) -> None:
         self.graph, self.most = graph, most
-        # The last operation for each node that is behind, and those for the node at which the plan is.
+        # The operation that stores the array of a node, by the node's number; the others that are left for a node; and those that copy
+        # an argument of a node into other chunks, by the numbers of both.
         self.made: dict[int, int] = {}
-        self.at, self.own, self.sums = -1, list[int](), 0
-        self.copies: list[tuple[Node, bool]] = []
-        self.copied: dict[int, int] = {}
+        self.own: dict[int, list[int]] = {}
+        self.copied: dict[tuple[int, int], list[int]] = {}
+        self.known: dict[int, tuple[str, ...]] = {}
 
-    def next(self, number: int, kind: str, at: int) -> tuple[str, ...]:
-        """Return what the next operation reads, which is one for the node `at`."""
-        node = self.graph.nodes[at]
-        if at != self.at:
-            if self.own:
-                self.made[self.at] = self.own[-1]
-            self.at, self.own, self.copied, self.sums = at, [], {}, 0
-            self.copies = copied_args(node, self.most) if kind == "copy" else []
-        if kind == "copy" and self.copies:
-            arg, is_second = self.copies.pop(0)
-            found = [f"op {self.own[-1]}"] if is_second and self.own else self.sources([arg])
-            self.copied[id(arg)] = number
-        elif kind in ("merge", "pairmerge") and self.own:
-            found = [f"op {self.own[-1]}"]
-        elif kind == "carry":
-            found = self.carried()
-        else:
-            found = self.sources(node.arrays or (node,)) + [f"op {it}" for it in self.own[-1:] if kind == "scan"]
-        self.own.append(number)
-        return tuple(found)
+    def operations(self, rows: list[_Row]) -> Iterator[Operation]:
+        """Go over the operations that are left for one node."""
+        at = rows[0].node
+        node, own = self.graph.nodes[at], self.own.setdefault(at, [])
+        copies = [row for row in rows if row.kind == "copy"]
+        for row, stage in zip(copies, left_stages(node, self.most, [row.stored for row in copies]) if copies else []):
+            place = self.graph.places[id(stage.arg)]
+            found = self.copied.setdefault((at, place), [])
+            reads = self.source(stage.arg) if stage.is_first else (f"op {found.pop()}",)
+            found.append(row.number)
+            if stage.is_last and node.op == "rechunk":
+                self.made[at] = row.number
+            yield self.told(row, node, row.stored * product(stage.chunks) * stage.arg.dtype.itemsize, reads)
+        sums = sum(row.kind in ("fold", "merge") for row in rows)
+        for row in rows[len(copies):]:
+            yield self.told(row, node, _chunk_bytes(row.kind, node, row.tasks, row.stored), self.reads(row.kind, at, sums))
+            own.append(row.number)
+        # (a task of the last one makes a chunk of the node's array; where it is left out, there are more partial results than such chunks)
+        last = rows[-1]
+        if last.kind not in ("copy", "carry") and last.tasks == product(numblocks(node.shape, node.chunks)):
+            self.made[at] = last.number
 
-    def carried(self) -> list[str]:
-        """Return what the next of the operations reads that go back from the last sums to the first: its sums, and what was carried before."""
-        self.sums = self.sums or len(self.own)
-        count = len(self.own) - self.sums
-        return [f"op {it}" for it in (self.own[self.sums - 1 - count], *self.own[-1:][:count])]
+    def told(self, row: _Row, node: Node, nbytes: int, reads: tuple[str, ...]) -> Operation:
+        return Operation(row.number, row.kind, expression(node), node.dtype, node.shape, node.chunks, row.tasks, row.stored, row.memory, nbytes, reads)
 
-    def sources(self, nodes: Sequence[Node]) -> list[str]:
-        """Return the stored arrays and results that are read for some nodes, through what is computed within the task."""
+    def reads(self, kind: str, at: int, sums: int) -> tuple[str, ...]:
+        """Return what the next operation of a node reads. Of a prefix sum `sums` operations make sums of chunks and of groups of them."""
+        own = self.own[at]
+        if kind in ("merge", "pairmerge"):
+            return (f"op {own[-1]}",)
+        if kind == "carry":
+            # From the last sums to the first: its sums, and what was carried before.
+            count = len(own) - sums
+            return tuple(f"op {it}" for it in (own[sums - 1 - count], *own[-1:][:count]))
+        return (*self.inside(at), *(f"op {it}" for it in own[-1:] if kind == "scan"))
+
+    def inside(self, at: int) -> tuple[str, ...]:
+        """Return what is read for the arguments of a node."""
         found: list[str] = []
-        waiting = list(reversed(nodes))
-        while waiting:
-            it = waiting.pop()
-            number = self.copied.get(id(it), self.made.get(self.graph.places[id(it)]))
-            if number is not None:
-                found.append(f"op {number}")
-            elif it.op in ("input", "data"):
-                found.append(expression(it))
+        for arg in self.graph.nodes[at].arrays:
+            copies = self.copied.get((at, self.graph.places[id(arg)]))
+            found += [f"op {it}" for it in copies] if copies else self.source(arg)
+        return tuple(dict.fromkeys(found))
+
+    def source(self, node: Node) -> tuple[str, ...]:
+        """Return the stored arrays and results that are read for a node whose operations are all known."""
+        at = self.graph.places[id(node)]
+        if at not in self.known:
+            own = tuple(f"op {it}" for it in self.own.get(at, [])[-1:])
+            if node.op in ("input", "data"):
+                self.known[at] = (expression(node),)
+            elif at in self.made:
+                self.known[at] = (f"op {self.made[at]}",)
             else:
-                waiting += reversed(it.arrays)
-        return list(dict.fromkeys(found))
+                self.known[at] = (*self.inside(at), *own) if node.op == "cumulative_sum" or not own else own
+        return self.known[at]
 
 
 def read_plan(text: str, graph: Graph, allowed: int, reserved: int, workers: int = 1) -> Plan:
@@ -214,20 +242,11 @@ def read_plan(text: str, graph: Graph, allowed: int, reserved: int, workers: int
     workers : int
         How many tasks run at once.
     """
-    found: list[Operation] = []
+    rows = [_Row(int(number), kind, *map(int, rest)) for number, kind, *rest in re.findall(
+        r"^op (\d+) (\w+) node=(\d+) tasks=(\d+) cells=(\d+) projected=(\d+)$", text, re.M)]
     reads = _Reads(graph, max(0, allowed - reserved) // 2)
-    copies: dict[int, list[int]] = {}
-    for number, kind, at, tasks, cells, memory in re.findall(
-            r"^op (\d+) (\w+) node=(\d+) tasks=(\d+) cells=(\d+) projected=(\d+)$", text, re.M):
-        node, count = graph.nodes[int(at)], int(cells)
-        nbytes = _chunk_bytes(kind, node, int(tasks), count)
-        if kind == "copy":
-            waiting = copies.setdefault(int(at), copies_of(node, max(0, allowed - reserved) // 2))
-            nbytes = count * (waiting.pop(0) if waiting else node.chunk_bytes)
-        found.append(Operation(int(number), kind, expression(node), node.dtype, node.shape, node.chunks, int(tasks), count,
-                               int(memory), nbytes, reads.next(int(number), kind, int(at))))
-    kept = {id(graph.nodes[int(at)]) for at in re.findall(r"^op \d+ \w+ node=(\d+)", text, re.M)}
-    inlined = tuple(expression(node) for node in graph.computed if id(node) not in kept)
+    found = [it for _, own in itertools.groupby(rows, lambda row: row.node) for it in reads.operations(list(own))]
+    inlined = tuple(expression(node) for at, node in enumerate(graph.nodes) if node.op not in ("input", "data") and at not in reads.made)
     inputs = {expression(node): product(max(1, count) for count in numblocks(node.shape, node.chunks)) * node.chunk_bytes
               for node in graph.nodes if node.op in ("input", "data")}
     peak = re.search(r"^plan .*\bpeak=(\d+)$", text, re.M)

@@ -35,8 +35,8 @@ if TYPE_CHECKING:
 
 # The bytes of a record: an expression of at most 1 MiB, and what stands around it.
 MOST_RECORD = 2**22
-# The versions of plans that a record may have.
-VERSIONS = (2, 3)
+# The `fusion` of each version of a plan that a record may have.
+FUSIONS = {2: 1, 3: 2}
 # The characters of an expression before a bar, about.
 LABEL = 32
 
@@ -130,8 +130,8 @@ def _check_inputs(store: Store, graph: Graph) -> None:
             check_finished(store.folder, node.members["name"])
 
 
-def _ask_plan(store: Store, folder: str, graph: Graph, text: str) -> Plan:
-    said = call_program(store.words("plan", folder), text, expression_of=graph.expression)
+def _ask_plan(store: Store, folder: str, graph: Graph, text: str, fusion: Optional[int] = None) -> Plan:
+    said = call_program(store.words("plan", folder, fusion=fusion), text, expression_of=graph.expression)
     return read_plan(said, graph, store.allowed_mem, store.reserved_mem, store.workers)
 
 
@@ -156,22 +156,23 @@ def _layouts(store: Store, graph: Graph) -> dict[str, Metadata]:
     return found
 
 
-def plan_node(node: Node, store: Optional[Store]) -> Plan:
-    """Return the plan of an expression. Nothing is stored."""
+def plan_node(node: Node, store: Optional[Store], fusion: Optional[int] = None) -> Plan:
+    """Return the plan of an expression, with another `fusion` than the store's where one is given. Nothing is stored."""
     graph = _graph(node, "plan")
     text = graph.text("plan")
     with _some_store(node, store) as found, telling("x.plan()", found.folder, "plan", True), _advised(found, graph, text):
         _check_fresh(found, graph)
         if not any(it.op == "data" for it in graph.nodes):
-            return _ask_plan(found, found.folder, graph, text)
+            return _ask_plan(found, found.folder, graph, text, fusion)
         # Metadata suffices, so arrays in memory aren't stored for it.
         with tempfile.TemporaryDirectory(prefix="cengmoat-") as folder:
             for name, meta in _layouts(found, graph).items():
                 write_file(folder, metadata_key(name), meta.text().encode(), sync=False)
-            return _ask_plan(found, folder, graph, text)
+            return _ask_plan(found, folder, graph, text, fusion)
 
 
-def _run(store: Store, graph: Graph, name: str, lock: int, progress: Optional[bool], command: str = "run") -> Report:
+def _run(store: Store, graph: Graph, name: str, lock: int, progress: Optional[bool], command: str = "run",
+         fusion: Optional[int] = None) -> Report:
     """Run an expression whose arrays in memory are stored, and return the report."""
     text = graph.text(name)
     bar, is_done = None, False
@@ -179,10 +180,10 @@ def _run(store: Store, graph: Graph, name: str, lock: int, progress: Optional[bo
     with _advised(store, graph, text), with_cause(store.folder, name, most, graph.inputs):
         if is_wanted(progress):
             label = expression(graph.nodes[graph.out], LABEL) if is_own(name) else name
-            bar = Bar(store.folder, name, _ask_plan(store, store.folder, graph, text), label)
+            bar = Bar(store.folder, name, _ask_plan(store, store.folder, graph, text, fusion), label)
         try:
-            said = call_program(store.words(command, is_temporary=is_own(name)), text, expression_of=graph.expression, locks=[lock],
-                                watch=None if bar is None else bar.watch)
+            said = call_program(store.words(command, is_temporary=is_own(name), fusion=fusion), text, expression_of=graph.expression,
+                                locks=[lock], watch=None if bar is None else bar.watch)
             is_done = True
         finally:
             if bar is not None:
@@ -191,7 +192,8 @@ def _run(store: Store, graph: Graph, name: str, lock: int, progress: Optional[bo
     return store.report
 
 
-def _run_parts(store: Store, graph: Graph, name: str, progress: Optional[bool], goes_on: bool, executor: Any, paths: Mapping[str, str]) -> None:
+def _run_parts(store: Store, graph: Graph, name: str, progress: Optional[bool], goes_on: bool, executor: Any, paths: Mapping[str, str],
+               fusion: Optional[int]) -> None:
     """Begin a run, or go on with one, and hand its parts to an executor; what is missing then is for `resume`.
 
     Raises
@@ -203,28 +205,39 @@ def _run_parts(store: Store, graph: Graph, name: str, progress: Optional[bool], 
         raise NotImplementedError("the program has no parts of runs, so executor= isn't for it: store(..) without it runs on this machine")
     text = graph.text(name)
     with _advised(store, graph, text), with_cause(store.folder, name, max(node.chunk_bytes for node in graph.nodes), graph.inputs):
-        said = call_program(store.words("plan" if goes_on else "begin"), text, expression_of=graph.expression)
+        said = call_program(store.words("plan" if goes_on else "begin", fusion=fusion), text, expression_of=graph.expression)
         bar, is_done = None, False
         if is_wanted(progress):
             bar = Bar(store.folder, name, read_plan(re.sub(r" reads=[\d,]*$", "", said, flags=re.M), graph, store.allowed_mem, store.reserved_mem), name)
         try:
-            Engine(store, graph, name, executor, paths, (lambda tasks: None) if bar is None else bar.show_tasks).run(read_steps(said))
+            Engine(store.words("part", fusion=fusion), graph, name, executor, paths,
+                   (lambda tasks: None) if bar is None else bar.show_tasks).run(read_steps(said))
             is_done = True
         finally:
             if bar is not None:
                 bar.close(is_done)
 
 
-def _check_record(store: Store, graph: Graph, name: str) -> None:
-    """Refuse the record of another plan, by OtherPlan."""
+def _held_record(store: Store, name: str) -> Any:
+    """Return what the record of a plan says, or None where there is none or it isn't JSON."""
     key = record_key(name)
-    text = read_regular(os.path.join(store.folder, key), key, at_most(MOST_RECORD)) or b""
     try:
-        held = json.loads(text)
+        return json.loads(read_regular(os.path.join(store.folder, key), key, at_most(MOST_RECORD)) or b"")
     except (ValueError, RecursionError):
-        held = None
-    is_record = isinstance(held, dict) and held.get("cubed") in VERSIONS
-    asked = {"allowed": store.allowed_mem, "cubed": held["cubed"] if is_record else VERSIONS[0], "expr": json.loads(graph.text(name)),
+        return None
+
+
+def _fusion_of(store: Store, name: str) -> int:
+    """Return the `fusion` of a plan that is begun, by its record; that of the store where there is no record that says one."""
+    held = _held_record(store, name)
+    version = held.get("cubed") if isinstance(held, dict) else None
+    return FUSIONS.get(version, store.fusion) if isinstance(version, int) else store.fusion
+
+
+def _check_record(store: Store, graph: Graph, name: str, fusion: int) -> None:
+    """Refuse the record of another plan, by OtherPlan."""
+    held = _held_record(store, name)
+    asked = {"allowed": store.allowed_mem, "cubed": fusion + 1, "expr": json.loads(graph.text(name)),
              "inputs": {its: json.loads(meta.plain().text()) for its, meta in _layouts(store, graph).items()},
              "reserved": store.reserved_mem, "split_every": store.split_every}
     texts = [json.dumps(it, sort_keys=True, separators=(",", ":")) for it in (held, asked)]
@@ -239,19 +252,20 @@ def store_node(node: Node, name: str, store: Optional[Store], progress: Optional
     check_free_name(name)
     found = store_of(node, store)
     graph = _graph(node, name)
+    fusion = _fusion_of(found, name) if resume else found.fusion
     if explain:
-        print(plan_node(node, found))
+        print(plan_node(node, found, fusion))
     with telling(f"x.store({name!r})", found.folder, name), locked(found.folder, name) as lock:
         _check_inputs(found, graph)
         goes_on = resume and has_record(found.folder, name)
         if goes_on:
-            _check_record(found, graph, name)
+            _check_record(found, graph, name, fusion)
         if not goes_on or not is_finished(found.folder, name):
             with memory_stored(found.folder, graph, lock):
                 if executor is not None:
-                    _run_parts(found, graph, name, progress, goes_on, executor, paths or {})
+                    _run_parts(found, graph, name, progress, goes_on, executor, paths or {}, fusion)
                     goes_on = True
-                _run(found, graph, name, lock.descriptor, progress, "resume" if goes_on else "run")
+                _run(found, graph, name, lock.descriptor, progress, "resume" if goes_on else "run", fusion)
         _label(found.folder, name, node)
         if not keep:
             remove_between(found.folder, name)

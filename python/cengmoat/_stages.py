@@ -1,8 +1,10 @@
 """Which chunks a copy into other chunks stores on its way: by the program's rule, for the bytes that a plan shows."""
 from __future__ import annotations
 
+from typing import NamedTuple, Sequence
+
 from ._nodes import Node
-from ._shapes import Shape, product
+from ._shapes import Shape, numblocks, product
 
 
 def _consolidated(chunk: Shape, shape: Shape, limit: Shape, item: int, most: int) -> Shape:
@@ -78,19 +80,37 @@ def wanted_chunks(node: Node) -> list[tuple[Node, Shape]]:
     return [(arg, chunks) for arg, chunks in pairs if chunks != arg.chunks]
 
 
-def copied_args(node: Node, most: int) -> list[tuple[Node, bool]]:
-    """Return for each copy that is made for a node, in order, the argument that is copied, and whether it is the second stage."""
-    found = []
-    for arg, chunks in wanted_chunks(node):
+class Stage(NamedTuple):
+    """A copy that a plan has for a node: the argument that is copied, the chunks that it stores, and whether it is the first and the last
+    copy of that argument."""
+
+    arg: Node
+    chunks: Shape
+    is_first: bool
+    is_last: bool
+
+
+def left_stages(node: Node, most: int, stored: Sequence[int]) -> list[Stage]:
+    """Return the copies for a node that a plan has, in order. Those that are joined with another one are left out.
+
+    Parameters
+    ----------
+    node : Node
+        The node.
+    most : int
+        The bytes of a region.
+    stored : sequence of int
+        The chunks that each copy of the plan stores.
+    """
+    found: list[Stage] = []
+    wanted = wanted_chunks(node)
+    for number, (arg, chunks) in enumerate(wanted):
         stages = copied_chunks(arg.shape, arg.chunks, chunks, arg.dtype.itemsize, most)
-        found += [(arg, stage > 0) for stage in range(len(stages))]
-    return found
-
-
-def copies_of(node: Node, most: int) -> list[int]:
-    """Return the bytes of a chunk of each array that is stored by the copies for a node, in order."""
-    found = []
-    for arg, chunks in wanted_chunks(node):
-        item = arg.dtype.itemsize
-        found += [product(sides) * item for sides in copied_chunks(arg.shape, arg.chunks, chunks, item, most)]
+        # (each argument behind this one has at least one copy)
+        left = stored[len(found):len(stored) - (len(wanted) - number - 1)][:2]
+        counts = [product(numblocks(arg.shape, it)) for it in stages]
+        ends = [at for at in range(len(stages)) if list(left[:len(stages) - at]) == counts[at:]]
+        # (the last one of a rechunk is left out where it is joined with a copy that reads it)
+        some = range(ends[0], len(stages)) if ends else range(len(left))
+        found += [Stage(arg, stages[at], at == some[0], at == len(stages) - 1) for at in some]
     return found

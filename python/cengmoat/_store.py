@@ -85,6 +85,9 @@ class Store(Mapping[str, Array]):
         How often a call or a task that failed is tried again, from 0 to 8.
     split_every : int
         How many partial results a task merges, from 2 to 64.
+    fusion : int
+        2 to compute arrays within the tasks that read them, where no other task does, and never store them; 1 to store each result but
+        those of functions that are computed with another one. The elements are the same. A program that has no such option takes 1.
 
     Attributes
     ----------
@@ -100,13 +103,14 @@ class Store(Mapping[str, Array]):
     """
 
     def __init__(self, folder: Union[str, os.PathLike[str]], program: Optional[str] = None, allowed_mem: Union[int, str] = "200MB",
-                 reserved_mem: Union[int, str] = 0, workers: Optional[int] = None, retries: int = 2, split_every: int = 4) -> None:
+                 reserved_mem: Union[int, str] = 0, workers: Optional[int] = None, retries: int = 2, split_every: int = 4, fusion: int = 2) -> None:
         self.folder = os.path.abspath(os.path.expanduser(os.fspath(folder)))
         self.allowed_mem = as_bytes(allowed_mem, "allowed_mem")
         self.reserved_mem = as_bytes(reserved_mem, "reserved_mem")
         self.workers = min(64, len(os.sched_getaffinity(0))) if workers is None else _count(workers, 1, 64, "workers")
         self.retries = _count(retries, 0, 8, "retries")
         self.split_every = _count(split_every, 2, 64, "split_every")
+        self.fusion = _count(fusion, 1, 2, "fusion")
         self.report: Optional[Report] = None
         self._program = None if program is None else find_program(program)
 
@@ -120,8 +124,8 @@ class Store(Mapping[str, Array]):
     def __repr__(self) -> str:
         return f"cengmoat.Store({self.folder!r}, {len(self.names())} arrays)"
 
-    def words(self, command: str, folder: Optional[str] = None, is_temporary: bool = False) -> list[str]:
-        """Return the words of a call of the program, over another folder where one is given.
+    def words(self, command: str, folder: Optional[str] = None, is_temporary: bool = False, fusion: Optional[int] = None) -> list[str]:
+        """Return the words of a call of the program, over another folder and with another `fusion` where one is given.
 
         What is temporary isn't written to the disk before it has its name, where the program offers that.
         """
@@ -129,6 +133,8 @@ class Store(Mapping[str, Array]):
         if command != "check":
             found += ["--allowed-mem", str(self.allowed_mem), "--reserved-mem", str(self.reserved_mem),
                       "--split-every", str(self.split_every)]
+            if (fusion or self.fusion) == 2 and offers_words(self.program, "plan", "--fusion", "2"):
+                found += ["--fusion", "2"]
         if command != "plan":
             found += ["--retries", str(self.retries)]
         if command in ("run", "resume") and self.workers != 1:

@@ -252,7 +252,7 @@ class Random(WithProgram):
     """Expressions of up to five steps."""
 
     def one(self, seed: int) -> None:
-        store = self.store(allowed_mem=10**7, split_every=2 + seed % 3)
+        store = self.store(allowed_mem=10**7, split_every=2 + seed % 3, fusion=1 if seed % 4 == 0 else 2)
         store.folder = f"{store.folder}-{seed}"
         draw = Draw(seed, store)
         pair = draw.array(tuple(draw.size() for _ in range(draw.pick.randint(0, 4))), draw.pick.choice(TYPES))

@@ -196,17 +196,20 @@ class Words(Case):
         t = here.save("t", np.arange(4))
         for call in ((t + 1).plan, lambda: (t + 1).store("y"), lambda: (t + 1).check("t")):
             self.assertRaises(cengmoat.NoMemory, call)
-        with open(path, encoding="utf-8") as file:
-            said = file.read().splitlines()
         memory = "--allowed-mem 1000000 --reserved-mem 7 --split-every 5"
+        said = self.words_in(path, here.folder)
         self.assertEqual(said, [f"{here.folder} plan {memory}", f"{here.folder} run {memory} --retries 1 --workers 3",
                                 f"{here.folder} check --retries 1"])
         os.unlink(path)
         self.assertRaises(cengmoat.NoMemory, (self.store(program=here.program)["t"] + 1).store, "y")
         processors = len(os.sched_getaffinity(0))
+        self.assertEqual(self.words_in(path, here.folder), [f"{here.folder} run --allowed-mem 200000000 --reserved-mem 0 --split-every 4 --retries 2"
+                                                            f"{f' --workers {processors}' if processors > 1 else ''}"])
+
+    def words_in(self, path: str, folder: str) -> list[str]:
+        """Return what a program was told over a folder; what it offers is asked of it over another one."""
         with open(path, encoding="utf-8") as file:
-            self.assertEqual(file.read(), f"{here.folder} run --allowed-mem 200000000 --reserved-mem 0 --split-every 4 --retries 2"
-                             f"{f' --workers {processors}' if processors > 1 else ''}\n")
+            return [line for line in file.read().splitlines() if line.startswith(f"{folder} ")]
 
     def test_temporary_results_are_stored_without_syncs(self) -> None:
         """Where the program knows the option, which it is asked once."""
@@ -227,15 +230,115 @@ sys.exit(70)
                 self.assertRaises(cengmoat.NoMemory, call)
             with open(path, encoding="utf-8") as file:
                 said = file.read().splitlines()
-            run = "run --allowed-mem 200000000 --reserved-mem 0 --split-every 4 --retries 2"
+            run = f"run --allowed-mem 200000000 --reserved-mem 0 --split-every 4{' --fusion 2' if offers else ''} --retries 2"
             end = " --sync 0" if offers else ""
-            self.assertEqual(said, ["run --sync 0", run + end, run + end, run])
+            self.assertEqual(said, ["plan --fusion 2", "run --sync 0", run + end, run + end, run])
 
     def test_workers_are_the_processors_that_the_process_may_use(self) -> None:
         code = "import os, cengmoat; os.sched_setaffinity(0, [min(os.sched_getaffinity(0))]); print(cengmoat.Store('x').workers, cengmoat.Store('x', workers=3).workers)"
         said = subprocess.run([sys.executable, "-c", code], env={**os.environ, "PYTHONPATH": PYTHON}, capture_output=True, text=True)
         self.assertEqual(said.stdout.split(), ["1", "3"], said.stderr)
         self.assertEqual(self.store().workers, min(64, len(os.sched_getaffinity(0))))
+
+
+# A program that has both versions of plans, and writes down what it is told; it ends with 70 once there is a file `fails`.
+BOTH_VERSIONS = """
+import json
+folder, *words = words
+text = sys.stdin.read()
+if not text:
+    sys.exit(3)
+job, options = json.loads(text), dict(zip(words[1::2], words[2::2]))
+if words[0] != "plan":
+    with open(os.path.join(folder, "told"), "a") as log:
+        log.write(f"{words[0]} {options.get('--fusion')}" + chr(10))
+if os.path.exists(os.path.join(folder, "fails")):
+    print("error 70", file=sys.stderr)
+    sys.exit(70)
+def put(key, data):
+    path = os.path.join(folder, key)
+    os.makedirs(os.path.dirname(path), exist_ok=True)
+    with open(path, "wb") as file:
+        file.write(data)
+if words[0] == "plan":
+    print(f"op 0 map node=1 tasks=1 cells=1 projected=9{chr(10)}plan ops=1 tasks=1 cells=1 peak=9")
+    sys.exit(0)
+meta = open(os.path.join(folder, "t", "zarr.json"), "rb").read()
+put(f"_cubed/{job['store_as']}/plan.json", json.dumps({"allowed": 200000000, "cubed": 1 + int(options.get("--fusion", 1)), "expr": job,
+                                                      "inputs": {"t": json.loads(meta)}, "reserved": 0, "split_every": 4}).encode())
+put(f"{job['store_as']}/zarr.json", meta)
+put(f"{job['store_as']}/c/0", bytes(16))
+print("ok ops=1 tasks=1 starts=1 failed=0 peak=9")
+"""
+
+
+class Versions(Case):
+    """Plans of both versions: 2 is what a store takes, and a run that is taken up again goes by its record."""
+
+    def setUp(self) -> None:
+        super().setUp()
+        self.here = self.store(program=self.fake_program(BOTH_VERSIONS), workers=1)
+        self.t = self.here.save("t", np.arange(4, dtype="int32"))
+        self.first = self.store(program=self.here.program, workers=1, fusion=1)
+
+    def told(self) -> list[str]:
+        """Return the commands that were run since this was asked, with what was said of the version."""
+        path = os.path.join(self.here.folder, "told")
+        with open(path, encoding="utf-8") as file:
+            found = file.read().splitlines()
+        os.unlink(path)
+        return found
+
+    def test_what_a_store_takes(self) -> None:
+        self.assertEqual((self.here.fusion, self.first.fusion, cengmoat.Store(self.folder).fusion), (2, 1, 2))
+        (self.t + 1).store("y")
+        (self.t + 1).store("z", self.first)
+        (self.t + 1).compute()
+        (self.t + 1).compute(store=self.first)
+        self.assertEqual(self.told(), ["run 2", "run None", "run 2", "run None"])
+        lazy = cengmoat.from_zarr(self.here.folder, "t", program=self.here.program, workers=1, fusion=1) + 1
+        lazy.compute()
+        self.assertEqual(self.told(), ["run None"])
+
+    def test_a_run_is_taken_up_by_its_record(self) -> None:
+        (self.t + 1).store("y", self.first)
+        (self.t + 1).store("z")
+        for name in "yz":
+            os.unlink(os.path.join(self.here.folder, name, "c", "0"))
+        self.told()
+        for store in (self.here, self.first):
+            for name, version in (("y", "None"), ("z", "2")):
+                (self.t + 1).store(name, store, resume=True)
+                os.unlink(os.path.join(self.here.folder, name, "c", "0"))
+                self.assertEqual(self.told(), [f"resume {version}"])
+        (self.t + 1).store("new", self.first, resume=True)
+        self.assertEqual(self.told(), ["run None"])
+
+    def test_a_whole_result_of_either_version_is_taken_up_without_the_program(self) -> None:
+        (self.t + 1).store("y", self.first)
+        (self.t + 1).store("z")
+        self.told()
+        with open(os.path.join(self.here.folder, "fails"), "w", encoding="utf-8"):
+            pass
+        for store in (self.here, self.first):
+            for name in "yz":
+                (self.t + 1).store(name, store, resume=True)
+                self.assertRaises(cengmoat.OtherPlan, (self.t + 2).store, name, store, resume=True)
+        self.assertFalse(os.path.exists(os.path.join(self.here.folder, "told")))
+
+    def test_a_record_of_no_version_is_another_plan(self) -> None:
+        (self.t + 1).store("y")
+        path = os.path.join(self.here.folder, "_cubed", "y", "plan.json")
+        with open(path, encoding="utf-8") as file:
+            record = file.read()
+        for other in ("1", "4", "true", "[3]", "null", "3.5"):
+            with open(path, "w", encoding="utf-8") as file:
+                file.write(record.replace('"cubed": 3', f'"cubed": {other}'))
+            self.assertRaises(cengmoat.OtherPlan, (self.t + 1).store, "y", resume=True)
+        for other in ("", "[]", "{"):
+            with open(path, "w", encoding="utf-8") as file:
+                file.write(other)
+            self.assertRaises(cengmoat.OtherPlan, (self.t + 1).store, "y", resume=True)
 
 
 class Programs(Case):
@@ -423,36 +526,61 @@ class Running(WithProgram):
 
     def test_plans(self) -> None:
         lazy = (self.t + self.here.save("o", np.ones(6, "int8"), 6)).sum(axis=0)
-        plan = lazy.plan()
-        self.assertEqual([it.kind for it in plan], ["copy", "map", "fold", "merge"])
-        self.assertEqual([it.nbytes for it in plan], [2 * 4, 6 * 16, 6 * 32, 2 * 32])
-        self.assertEqual((plan.tasks, plan.stored, plan.nbytes), (1 + 6 + 6 + 2, 2 + 6 + 6 + 2, sum(it.nbytes for it in plan)))
-        self.assertEqual(plan.peak, max(it.memory for it in plan))
-        lazy.store("sums", keep=True)
-        self.assertEqual((self.here.report.tasks, self.here.report.peak), (plan.tasks, plan.peak))
-        self.assertEqual(self.stored_bytes("sums"), plan.nbytes)
-        for said in ("t + o", "sum(t + o, axis=0)", "(5, 6)", "int16", "copy", "peak"):
-            self.assertIn(said, repr(plan))
-        self.assertIn("<table>", plan._repr_html_())
+        exact = (self.data + np.ones(6, "int8")).sum(axis=0)
+        # Of each operation its kind, its tasks, its chunks and their bytes.
+        inner = [("fold", 6, 6, 6 * 32), ("merge", 2, 2, 2 * 32)]
+        for fusion, wanted in ((1, [("copy", 1, 2, 2 * 4), ("map", 6, 6, 6 * 16), *inner]), (2, [("copy", 1, 2, 2 * 4), *inner])):
+            here = self.store(fusion=fusion)
+            plan = lazy.plan(store=here)
+            self.assertEqual([(it.kind, it.tasks, it.stored, it.nbytes) for it in plan], wanted)
+            self.assertEqual((plan.tasks, plan.stored, plan.nbytes), tuple(sum(column) for column in list(zip(*wanted))[1:]))
+            self.assertEqual(plan.peak, max(it.memory for it in plan))
+            self.same(lazy.store(f"sums{fusion}", here, keep=True).compute(), exact)
+            self.assertEqual((here.report.tasks, here.report.peak), (plan.tasks, plan.peak))
+            self.assertEqual(self.stored_bytes(f"sums{fusion}"), plan.nbytes)
+            for said in ("t + o", "sum(t + o, axis=0)", "(5, 6)", "int16", "copy", "peak"):
+                self.assertIn(said, repr(plan))
+            self.assertIn("<table>", plan._repr_html_())
 
     def test_what_plans_read_and_inline(self) -> None:
-        store = self.store(workers=3)
-        t, o = store["t"], store.save("o", np.ones(6, "int8"), 6)
+        self.here.save("o", np.ones(6, "int8"), 6)
+        for fusion in (1, 2):
+            store = self.store(workers=3, fusion=fusion)
+            t = store["t"]
+            for lazy, *wanted in self.planned(t, store["o"]):
+                plan = lazy.plan()
+                reads, inlined = wanted[fusion - 1] if len(wanted) > 1 else wanted[0]
+                found = {(it.kind, it.number): it.reads for it in plan}
+                if plan.operations[0].kind == "copy" and len(plan) == len(reads) + 1:
+                    found.pop(("copy", 0))
+                self.assertEqual((list(found.values()), plan.inlined), (reads, inlined), plan)
+                self.assertEqual((plan.inputs["t"], plan.workers, plan.memory), (6 * 16, 3, plan.peak * min(3, max(it.tasks for it in plan))))
+                for said in ("computed within the tasks of others", "read: t (96 B)", f"memory: at most {cengmoat._sizes.bytes_text(plan.memory)} with 3 workers"):
+                    self.assertIn(said, repr(plan))
+                    self.assertIn(said, plan._repr_html_())
+
+    def planned(self, t: cengmoat.Array, o: cengmoat.Array) -> list[tuple[Any, ...]]:
+        """Return expressions with what each operation reads and what is computed within others, for both versions where they differ."""
         lines = np.arange(6, dtype="int16")
-        for lazy, reads, inlined in (
-                ((t + o).sum(axis=0), [("o",), ("t", "op 0"), ("op 1",), ("op 2",)], ()), ((t * 2 + 1).rechunk((5, 6)), [("t",), ("op 0",)], ("t * 2",)),
-                (t.argmax(axis=0), [("t",), ("op 0",)], ()), (t @ t.T, [("t",), ("t", "op 0"), ("op 1",)], ()), (xp.flip(t) + 1, [("t",), ("op 0",)], ()),
-                (((t + 1) * (t + 1)).max(), [("t",), ("op 0",), ("op 1",), ("op 2",), ("op 3",)], ()), (t - lines, [("t", "op 0")], ()),
-                (t.cumsum(0), [("t",), ("op 0",), ("t", "op 1")], ()), (cengmoat.groupby_sum(t, lines, 1, 3), [("t", "op 0"), ("op 1",)], ())):
-            plan = lazy.plan()
-            wanted = {(it.kind, it.number): it.reads for it in plan}
-            if plan.operations[0].kind == "copy" and len(plan) == len(reads) + 1:
-                wanted.pop(("copy", 0))
-            self.assertEqual((list(wanted.values()), plan.inlined), (reads, inlined), plan)
-            self.assertEqual((plan.inputs["t"], plan.workers, plan.memory), (6 * 16, 3, plan.peak * min(3, max(it.tasks for it in plan))))
-            for said in ("computed within the tasks of others", "read: t (96 B)", f"memory: at most {cengmoat._sizes.bytes_text(plan.memory)} with 3 workers"):
-                self.assertIn(said, repr(plan))
-                self.assertIn(said, plan._repr_html_())
+        square = (t + 1) * (t + 1)
+        return [
+            ((t + o).sum(axis=0), ([("o",), ("t", "op 0"), ("op 1",), ("op 2",)], ()), ([("o",), ("t", "op 0"), ("op 1",)], ("t + o",))),
+            ((t + o) * 2, ([("o",), ("t", "op 0")], ("t + o",))), ((t * 2 + 1).rechunk((5, 6)), ([("t",), ("op 0",)], ("t * 2",))),
+            (t.argmax(axis=0), ([("t",), ("op 0",)], ())), (t @ t.T, ([("t",), ("t", "op 0"), ("op 1",)], ())),
+            (xp.flip(t) + 1, ([("t",), ("op 0",)], ()), ([("t",)], ("flip(t, axis=(0, 1))",))), (xp.flip(t) + t, ([("t",), ("op 0", "t")], ()), ([("t",)], ("flip(t, axis=(0, 1))",))),
+            (square.max(), ([("t",), ("op 0",), ("op 1",), ("op 2",), ("op 3",)], ()), ([("t",), ("op 0",), ("op 1",)], ("t + 1", "(t + 1) * (t + 1)"))),
+            (t - lines, ([("t", "op 0")], ())), (t.cumsum(0), ([("t",), ("op 0",), ("t", "op 1")], ())), (cengmoat.groupby_sum(t, lines, 1, 3), ([("t", "op 0"), ("op 1",)], ())),
+            (t.cumsum(0) * 2, ([("t",), ("op 0",), ("t", "op 1"), ("op 2",)], ()), ([("t",), ("op 0",), ("t", "op 1")], ("cumulative_sum(t, axis=0)",))),
+            (t.sum(axis=0) // 2, ([("t",), ("op 0",), ("op 1",)], ()), ([("t",), ("op 0",)], ("sum(t, axis=0)",))),
+            (t.rechunk((5, 6)).rechunk((1, 6)), ([("t",), ("op 0",)], ()), ([("t",)], ("rechunk(t, chunks=(5, 6))",)))]
+
+    def test_an_expression_that_is_read_twice_at_each_step(self) -> None:
+        """What it reads is found once for each of its nodes."""
+        x, exact = self.t, self.data
+        for _ in range(30):
+            x, exact = x * x, exact * exact
+        self.assertEqual([it.reads for it in x.plan()], [("t",)])
+        self.same(x.compute(), exact)
 
     def test_a_run_that_is_explained(self) -> None:
         for call in (lambda: (self.t + 1).compute(explain=True), lambda: (self.t + 1).store("y", explain=True),
@@ -474,11 +602,13 @@ class Running(WithProgram):
         wide = self.here.save("wide", np.arange(96, dtype="int32").reshape(8, 12), (8, 1))
         for number, lazy in enumerate((wide.rechunk((1, 12)), wide.argmax(axis=1), wide.argmin(), wide[:, ::2], wide.any(),
                                        wide @ wide.T, xp.matmul(wide[:, 0], wide), wide.astype("int8").astype("int64"), wide.sum(axis=0),
-                                       wide.cumsum(1), wide.cumsum(0), cengmoat.groupby_min(wide, np.arange(12), 1, 5), cengmoat.groupby_sum(wide, np.arange(8), 0, 3))):
-            here = self.store(allowed_mem=300 if number == 0 else 10**5)
-            plan = lazy.plan(store=here)
-            lazy.store(f"r{number}", here, keep=True)
-            self.assertEqual(self.stored_bytes(f"r{number}"), plan.nbytes, plan)
+                                       wide.cumsum(1), wide.cumsum(0), cengmoat.groupby_min(wide, np.arange(12), 1, 5), cengmoat.groupby_sum(wide, np.arange(8), 0, 3),
+                                       wide.cumsum(1) + 1, wide.sum(axis=1) * 2, (wide + 1).argmax(axis=1), wide.rechunk((3, 4)).rechunk((8, 5)), (wide + wide.rechunk((2, 3))).max())):
+            for fusion in (1, 2):
+                here = self.store(allowed_mem=300 if number == 0 else 10**5, fusion=fusion)
+                plan = lazy.plan(store=here)
+                lazy.store(f"r{number}-{fusion}", here, keep=True)
+                self.assertEqual(self.stored_bytes(f"r{number}-{fusion}"), plan.nbytes, plan)
         self.assertEqual([it.kind for it in wide.rechunk((1, 12)).plan(store=self.store(allowed_mem=300))], ["copy", "copy"])
         levels = wide.cumsum(1).plan(store=self.store(split_every=3))
         self.assertEqual([it.kind for it in levels], ["fold", "merge", "merge", "carry", "carry", "carry", "scan"])

@@ -191,9 +191,9 @@ class BadInput(Case):
 
     def test_options(self) -> None:
         for options in ({"allowed_mem": "much"}, {"allowed_mem": -1}, {"workers": 0}, {"workers": 65}, {"retries": 9}, {"split_every": 1},
-                        {"allowed_mem": 2**40 + 1}, {"reserved_mem": "1 parsec"}):
+                        {"allowed_mem": 2**40 + 1}, {"reserved_mem": "1 parsec"}, {"fusion": 0}, {"fusion": 3}):
             self.assertRaises(ValueError, self.store, **options)
-        for options in ({"allowed_mem": 1.5}, {"workers": True}, {"retries": "2"}):
+        for options in ({"allowed_mem": 1.5}, {"workers": True}, {"retries": "2"}, {"fusion": "2"}, {"fusion": True}):
             self.assertRaises(TypeError, self.store, **options)
         self.assertRaises(cengmoat.NoProgram, self.store, program="/no/such/program")
         for text, count in (("2GB", 2 * 10**9), ("64MiB", 64 * 2**20), ("1.5 kB", 1500), ("1_000", 1000), ("3k", 3000)):

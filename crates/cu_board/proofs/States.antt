@@ -1,5 +1,5 @@
 -- What the board keeps, after a claim and after a report.
-use Rattle.std.proofs.Common.{◌≡◌, ℕ, ◌≤◌, min, Bool, List, [], Some, Result, Err, refl, sym, ap, ◌∙◌, subst, ⊎_elim, arith}
+use Rattle.std.proofs.Common.{◌≡◌, ℕ, Bool, List, [], Some, Result, Err, refl, sym, ap, ◌∙◌, subst, ⊎_elim, arith}
 use Rattle.std.specs.Prelude.{IsTrue}
 use Rattle.cu_store.specs.Yard.{Known, IsOfOneYard, IsJoined, uncounted, Served, YardLaws}
 use Rattle.cu_store.specs.declared.faults.TaskFault.{TaskFault}

@@ -10,7 +10,8 @@ use Rattle.cu_op.specs.declared.cells.Cell.{Cell}
 use Rattle.cu_op.specs.Arrays.{chunk_room}
 use Rattle.cu_op.specs.PlanView.{PlanView}
 use Rattle.cu_op.specs.Schedule.{op_of, key_of}
-use Rattle.cu_op.specs.Walks.{written_chunks, read_chunks}
+use Rattle.cu_op.specs.Walks.{written_chunks}
+use Rattle.cu_op.specs.Within.{fetched_chunks}
 use Rattle.cu_run_law.specs.Pieces.{IsInputChunk}
 use Rattle.cu_table.specs.declared.claim.Claim.{Claim}
 use Rattle.cu_table.specs.declared.claim.Claim.TheVariants.{Run, Halted}
@@ -49,18 +50,18 @@ pub record IsBadEntry (p : PlanView) (entries : Contents) (key : List ℕ) (got 
   pub held : entries key ≡ Some bytes
   pub length_is : length bytes ≡ got
 
--- the key is that of a chunk that a task of the plan reads, whose bytes are `want` and not `got`
+-- the key is that of a chunk that a task of the plan fetches, whose bytes are `want` and not `got`
 pub record IsReadAmiss (p : PlanView) (key : List ℕ) (got want : ℕ) : Type 0 where
   pub op : ℕ
   pub task : ℕ
   pub is : IsTask p op task
   pub cell : Cell
-  pub read : Contains (read_chunks p.arrays (op_of p op) task) cell
+  pub read : Contains (fetched_chunks p op task) cell
   pub key_is : key ≡ key_of p.arrays cell
   pub want_is : want ≡ chunk_room p.arrays cell.array
   pub other : got ≢ want
 
--- Why this fault ends a run, as a pass tells it. Of a bad chunk a task reads it, and where contents are told it is an input's.
+-- Why this fault ends a run, as a pass tells it. Of a bad chunk a task fetches it, and where contents are told it is an input's.
 abbrev pub IsCauseOf : PlanView → Known → TaskFault → Type 0
 IsCauseOf p k (fault.BadChunk key got want) =
     IsReadAmiss p key got want × ((entries : Contents) → k.entries ≡ Some entries → IsBadEntry p entries key got want)

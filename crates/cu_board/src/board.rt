@@ -104,7 +104,7 @@ impl<Y: Yard> Board<Y> {
     }
 
     /// Tells how the task ended that the seat's own entries leave running. Ok wants the task's cells among those that the pass
-    /// has seen, and tells them the board's pass. BadChunk wants a chunk that a task reads, and an input's where contents are
+    /// has seen, and tells them the board's pass. BadChunk wants a chunk that a task fetches, and an input's where contents are
     /// told; NoMemory wants a yard that lacks. The caller's pass stays as it is, with its counts.
     pub fn report<H: Wait>(
         &self,

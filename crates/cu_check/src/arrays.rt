@@ -62,6 +62,7 @@ pub(crate) fn read_array<D: Depot>(
         prefix: key_of_name(&array.name),
         layout: *layout,
         maker: None,
+        inlined: false,
     };
     match read_chunks(depot, &info, retries, &mut chunk, &mut all) {
         Ok(()) => Ok(all),

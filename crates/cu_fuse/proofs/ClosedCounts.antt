@@ -2,7 +2,6 @@
 use Rattle.std.proofs.Common.{◌≡◌, inl, inr, ℕ, zero, suc, ◌+◌, ◌<◌, ◌≤◌, ◌^◌, Bool, true, List, [], ◌∷◌, ◌++◌, Contains, length, map, Option, Some, None, refl, ap, sym, ◌∙◌, subst, arith, ⊎_elim, if◌then◌else◌}
 use Rattle.std.specs.Prelude.{sum_by}
 use Rattle.std.proofs.lemmas.Bool.{cases_Bool}
-use Rattle.std.proofs.lemmas.List.{length-map}
 use Rattle.std.proofs.lemmas.List.Sums.{sum_by-append, sum_by-cons}
 use Rattle.cu_shape.specs.Index.{product}
 use Rattle.cu_grid.specs.Grid.{RegularGrid}
@@ -10,22 +9,21 @@ use Rattle.cu_op.specs.declared.layout.ArrayInfo.{ArrayInfo}
 use Rattle.cu_op.specs.declared.operation.Op.{Op}
 use Rattle.cu_op.specs.declared.operation.Op.TheVariants.{Map}
 use Rattle.cu_op.specs.declared.operation.Planned.{Planned}
-use Rattle.cu_op.specs.Arrays.{array_at, maker_at, grid_counts, array_chunk_count}
-use Rattle.cu_op.specs.Cells.{tasks_of}
+use Rattle.cu_op.specs.Arrays.{array_at, is_inlined, maker_at, grid_counts, array_chunk_count, AllStored}
+use Rattle.cu_op.specs.Cells.{regions_of, tasks_of}
 use Rattle.cu_op.specs.Operation.{writes_of, renumbered}
 use Rattle.cu_op.specs.PlanView.{PlanView}
 use Rattle.cu_op.specs.Sound.{Sound, cells_by, made_chunks}
-use Rattle.cu_fuse.specs.Close.{remains, remaining_from, remaining_numbers, remaining_array, remaining_arrays, count_behind, renumbered_planned, new_number, closed, fused_by, setting_by, setting_of, HasMadeNames}
+use Rattle.cu_op.proofs.AllStored.{all_tasks}
+use Rattle.cu_fuse.specs.Close.{remains, remaining_from, remaining_numbers, remaining_array, remaining_arrays, count_behind, renumbered_planned, new_number, closed, setting_by, setting_of}
 use Rattle.cu_fuse.specs.Fused.{SettingView, fused_ops, loaded_ops, map_inputs, joint, with_one_load}
 use Rattle.cu_fuse.specs.Merge.{merged_op}
 use Rattle.cu_fuse.specs.Runs.{HasWriter}
 use Rattle.cu_fuse.proofs.Closing.{renumbered_tasks}
-use Rattle.cu_fuse.proofs.ClosedNames.{closed_few, arrays_are, keys_are, inputs_are}
-use Rattle.cu_fuse.proofs.ClosedSound.{operations, makers}
-use Rattle.cu_fuse.proofs.ClosedValue.{AreLeft, all_left, left_written}
-use Rattle.cu_fuse.proofs.FromSound.{fused_sound, written_at}
+use Rattle.cu_fuse.proofs.ClosedValue.{AreLeft, left_written}
+use Rattle.cu_fuse.proofs.FromSound.{written_at}
 use Rattle.cu_fuse.proofs.Fusing.{Step, all_keep}
-use Rattle.cu_fuse.proofs.LeftArrays.{kept_layout, placed_once, within, numbers_in}
+use Rattle.cu_fuse.proofs.LeftArrays.{kept_layout, placed_once, numbers_in, left_stored}
 use Rattle.cu_fuse.proofs.Loaded.{loaded_has, written_once}
 use Rattle.cu_fuse.proofs.Running.{written_left, written_right, written_parts}
 use Rattle.cu_fuse.proofs.Same.{one_load_does}
@@ -128,13 +126,15 @@ module _ (p : PlanView) (ops : List Planned) where
   abbrev N : List ℕ
   N = remaining_numbers p.arrays ops
 
-  tasks_closed : (os : List Planned) → AreLeft N os → sum_by (λ o. tasks_of (closed (setting_of p) ops).arrays o.op) (map (renumbered_planned (new_number (setting_of p) ops)) os) ≡ sum_by (λ o. tasks_of p.arrays o.op) os
-  tasks_closed [] left = refl
-  tasks_closed (o ∷ os) ((reads, writes), rest) =
+  pub tasks_closed : AllStored p.arrays → (os : List Planned) → AreLeft N os → sum_by (λ o. tasks_of (closed (setting_of p) ops).arrays o.op) (map (renumbered_planned (new_number (setting_of p) ops)) os) ≡ sum_by (λ o. tasks_of p.arrays o.op) os
+  tasks_closed all [] left = refl
+  tasks_closed all (o ∷ os) ((reads, writes), rest) =
       let f = new_number (setting_of p) ops in
-      let own : tasks_of (closed (setting_of p) ops).arrays (renumbered f o.op) ≡ tasks_of p.arrays o.op =
+      let same : regions_of (closed (setting_of p) ops).arrays (renumbered f o.op) ≡ regions_of p.arrays o.op =
       ap (λ (g : RegularGrid). product (grid_counts g)) (renumbered_tasks f p.arrays (closed (setting_of p) ops).arrays (Contains N) (kept_layout p ops) (placed_once p ops) o.op reads writes) in
-      let more = tasks_closed os rest in
+      let own : tasks_of (closed (setting_of p) ops).arrays (renumbered f o.op) ≡ tasks_of p.arrays o.op =
+      all_tasks (closed (setting_of p) ops).arrays (renumbered f o.op) (left_stored p ops all) ∙ same ∙ sym (all_tasks p.arrays o.op all) in
+      let more = tasks_closed all os rest in
       let a = sum_by-cons (λ (x : Planned). tasks_of (closed (setting_of p) ops).arrays x.op) (renumbered_planned f o) (map (renumbered_planned f) os) in
       let b = sum_by-cons (λ (x : Planned). tasks_of p.arrays x.op) o os in
       omega (arith, own, more, a, b)
@@ -142,9 +142,10 @@ module _ (p : PlanView) (ops : List Planned) where
   -- a made array that is left has the chunks that it had
   cells_same : (k a : ℕ) (m : Option ℕ) → maker_at p.arrays a ≡ m → made_chunks (remaining_array (setting_of p) ops k a m) ≡ made_chunks (array_at p.arrays a)
   cells_same k a None e = refl
-  cells_same k a (Some m) e = sym (ap (λ (x : Option ℕ). cells_by x (array_chunk_count (array_at p.arrays a))) e)
+  cells_same k a (Some m) e =
+      sym (ap (λ (x : Option ℕ). if is_inlined p.arrays a then 0 else cells_by x (array_chunk_count (array_at p.arrays a))) e)
 
-  cells_fewer : (k n : ℕ) (rest : List ArrayInfo) → ((i : ℕ) → i < length rest → array_at p.arrays (n + i) ≡ array_at rest i) → sum_by made_chunks (remaining_arrays (setting_of p) ops k (remaining_from ops n rest)) ≤ sum_by made_chunks rest
+  pub cells_fewer : (k n : ℕ) (rest : List ArrayInfo) → ((i : ℕ) → i < length rest → array_at p.arrays (n + i) ≡ array_at rest i) → sum_by made_chunks (remaining_arrays (setting_of p) ops k (remaining_from ops n rest)) ≤ sum_by made_chunks rest
   cells_fewer k n [] same = omega arith
   cells_fewer k n (a ∷ rest) same = elim (cases_Bool (remains ops n a.maker)) [
     | inl stays ↦ subst (λ (l : List ℕ). sum_by made_chunks (remaining_arrays (setting_of p) ops k l) ≤ sum_by made_chunks (a ∷ rest)) (sym (λ i. if stays i then (n ∷ remaining_from ops (n + 1) rest) else remaining_from ops (n + 1) rest))
@@ -175,29 +176,3 @@ out_stays once p sound room = numbers_in p ops p.out sound.out (go (maker_at p.a
     go (Some k) e =
         let (l, w) = sound.makers p.out k sound.out e in
         left_written ops p.out (maker_at p.arrays p.out) (written_kept (setting_by once p) room p.ops (written_at p.ops k p.out l w))
-
--- a plan is sound after the merges of its maps
-pub fused_is_sound : (once : Bool) (p : PlanView) → Sound p → HasMadeNames p → p.allowed < 2 ^ 64 → Sound (fused_by once p)
-fused_is_sound once p sound names room =
-    let s : SettingView = setting_by once p in
-    let ops : List Planned = fused_ops s p.ops in
-    let run = (fused_sound once p (λ a idx. None) sound room).0 in
-    let left = all_left p ops [] ops refl run in
-    let few = closed_few p ops sound names in
-    let count : length ops ≤ length p.ops = (let c = count_kept s room p.ops (length p.ops) (let l = length_is p.ops in omega (arith, l)) in let l = length_is ops in omega (arith, c, l)) in
-    let all_cells = cells_fewer p ops 0 0 p.arrays (λ i h. ap (array_at p.arrays) (let z : 0 + i ≡ i = omega arith in z)) in
-    let cells = sound.cells in
-    let all_ops = sound.operation_count in
-    let all_arrays = sound.array_count in
-    record {
-      operations = operations p ops sound run;
-      makers = makers p ops sound run;
-      arrays = arrays_are p ops sound names;
-      keys = keys_are p ops sound names;
-      out = within p ops p.out (out_stays once p sound room);
-      array_count = omega (arith, few, all_arrays);
-      operation_count = (let l = length-map ops (renumbered_planned (new_number (setting_of p) ops)) in omega (arith, l, count, all_ops));
-      input_chunks = inputs_are p ops sound names;
-      tasks = (let e = tasks_closed p ops ops left in let t = tasks_kept s room p.ops 65536 sound.tasks in omega (arith, e, t));
-      cells = omega (arith, all_cells, cells);
-    }

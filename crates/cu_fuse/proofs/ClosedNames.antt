@@ -1,5 +1,5 @@
 -- The arrays that are left have names of their own.
-use Rattle.std.proofs.Common.{◌≡◌, ◌≢◌, ◌⊎◌, inl, inr, ℕ, zero, suc, ◌+◌, ◌<◌, ◌≤◌, ◌^◌, List, [], ◌∷◌, ◌++◌, All, codes, length, Option, Some, None, refl, ap, sym, ◌∙◌, subst, arith, length-append, ⊎_elim, if◌then◌else◌}
+use Rattle.std.proofs.Common.{◌≡◌, ◌≢◌, ◌⊎◌, inl, inr, ℕ, zero, suc, ◌+◌, ◌<◌, ◌≤◌, ◌^◌, false, List, [], ◌∷◌, ◌++◌, All, codes, length, Option, Some, None, refl, ap, sym, ◌∙◌, subst, arith, length-append, ⊎_elim, if◌then◌else◌}
 use Rattle.std.specs.List.{slice_get}
 use Rattle.std.specs.Char.{digit_value}
 use Rattle.std.specs.Fmt.{decimal}
@@ -20,18 +20,18 @@ use Rattle.cu_op.specs.declared.layout.Layout.{Layout}
 use Rattle.cu_op.specs.declared.operation.Planned.{Planned}
 use Rattle.cu_shape.specs.Index.{product}
 use Rattle.cu_grid.specs.Grid.{IsCoordinate, IsGrid}
-use Rattle.cu_op.specs.Arrays.{array_at, maker_at, no_array, grid_counts, array_chunk_count}
+use Rattle.cu_op.specs.Arrays.{array_at, is_inlined, maker_at, no_array, grid_counts, array_chunk_count}
 use Rattle.cu_op.specs.Layout.{IsArray, IsLayout}
-use Rattle.cu_op.specs.Names.{HasOwnNames}
+use Rattle.cu_op.specs.Names.{HasCells, HasOwnNames}
 use Rattle.cu_op.specs.PlanView.{PlanView}
 use Rattle.cu_op.specs.Sound.{Sound, IsCell, ChunkKeysDiffer}
 use Rattle.cu_fuse.specs.Close.{remains, remaining_from, remaining_numbers, remaining_array, remaining_arrays, count_behind, others_before, closed, setting_of, HasMadeNames}
-use Rattle.cu_fuse.proofs.LeftArrays.{length-left, old_array, numbers_out, left_once}
+use Rattle.cu_fuse.proofs.LeftArrays.{length-left, old_array, numbers_out, left_once, inlined_of_left}
 
-prefix_told : (name : List ℕ) (j k : ℕ) → j < 2 ^ 64 → k < 2 ^ 64 → made_prefix_of name j ≡ made_prefix_of name k → j ≡ k
+pub prefix_told : (name : List ℕ) (j k : ℕ) → j < 2 ^ 64 → k < 2 ^ 64 → made_prefix_of name j ≡ made_prefix_of name k → j ≡ k
 prefix_told name j k sj sk e = decimal_injective j k sj sk (append_cancel_left ((codes "_cubed/" ++ name) ++ codes "/") (decimal j) (decimal k) e)
 
-prefix_other : (name : List ℕ) (k : ℕ) → name ≢ made_prefix_of name k
+pub prefix_other : (name : List ℕ) (k : ℕ) → name ≢ made_prefix_of name k
 prefix_other name k e =
     let a = length-append ((codes "_cubed/" ++ name) ++ codes "/") (decimal k) in
     let b = length-append (codes "_cubed/" ++ name) (codes "/") in
@@ -68,7 +68,7 @@ decimal_plain : (n : ℕ) → n < 2 ^ 64 → All (λ x. x ≢ 47) (decimal n)
 decimal_plain n small = digits_plain (decimal n) ((decimal_is_IsNumeral n small).0.1)
 
 -- the name of a made array: the output's, or one of the others
-abbrev IsMadeName : List ℕ → List ℕ → Type 0
+abbrev pub IsMadeName : List ℕ → List ℕ → Type 0
 IsMadeName name prefix = (prefix ≡ name) ⊎ ((k : ℕ) × (k < 2 ^ 64) × (prefix ≡ made_prefix_of name k))
 
 numbered_apart : (front d e r s : List ℕ) → All (λ x. x ≢ 47) d → All (λ x. x ≢ 47) e → (front ++ d) ++ 47 ∷ r ≡ (front ++ e) ++ 47 ∷ s → (front ++ d ≡ front ++ e) × (r ≡ s)
@@ -78,7 +78,7 @@ numbered_apart front d e r s pd pe h =
     (ap (λ l. front ++ l) same, rest)
 
 -- such a name is told by the keys that begin with it
-name_told : (name x y r s : List ℕ) → IsArrayName name → IsMadeName name x → IsMadeName name y → x ++ 47 ∷ r ≡ y ++ 47 ∷ s → (x ≡ y) × (r ≡ s)
+pub name_told : (name x y r s : List ℕ) → IsArrayName name → IsMadeName name x → IsMadeName name y → x ++ 47 ∷ r ≡ y ++ 47 ∷ s → (x ≡ y) × (r ≡ s)
 name_told name x y r s n (inl own) (inl other) e =
     let whole : name ++ 47 ∷ r ≡ name ++ 47 ∷ s = ap (λ l. l ++ 47 ∷ r) (sym own) ∙ e ∙ ap (λ l. l ++ 47 ∷ s) other in
     let behind = append_cancel_left name (47 ∷ r) (47 ∷ s) whole in
@@ -98,7 +98,7 @@ module _ (p : PlanView) (ops : List Planned) where
   name : List ℕ
   name = (array_at p.arrays p.out).prefix
 
-  abbrev IsOther : ℕ → Type 0
+  abbrev pub IsOther : ℕ → Type 0
   IsOther a = (maker_at p.arrays a ≢ None) × (a ≢ p.out)
 
   pub behind_other : (k a : ℕ) → IsOther a → count_behind (setting_of p) k a (maker_at p.arrays a) ≡ k + 1
@@ -108,7 +108,7 @@ module _ (p : PlanView) (ops : List Planned) where
       go None e = absurd (made e)
       go (Some m) e = elim (eqb_tells a p.out) [ inl q ↦ absurd (other q.1) | inr q ↦ (λ i. if q.0 i then k else (k + 1)) ]
 
-  behind_most : (k a : ℕ) → (k ≤ count_behind (setting_of p) k a (maker_at p.arrays a)) × (count_behind (setting_of p) k a (maker_at p.arrays a) ≤ k + 1)
+  pub behind_most : (k a : ℕ) → (k ≤ count_behind (setting_of p) k a (maker_at p.arrays a)) × (count_behind (setting_of p) k a (maker_at p.arrays a) ≤ k + 1)
   behind_most k a = go (maker_at p.arrays a)
     where
       go : (m : Option ℕ) → (k ≤ count_behind (setting_of p) k a m) × (count_behind (setting_of p) k a m ≤ k + 1)
@@ -273,6 +273,10 @@ module _ (p : PlanView) (ops : List Planned) (sound : Sound p) (names : HasMadeN
   was_made : (b : ℕ) (s : Stands b) → maker_at q.arrays b ≢ None → maker_at p.arrays s.old ≢ None
   was_made b s made = made_was p ops s.count s.old (λ none. made (ap (λ (x : ArrayInfo). x.maker) s.is ∙ none))
 
+  was_stored : (b : ℕ) (s : Stands b) → is_inlined q.arrays b ≡ false → is_inlined p.arrays s.old ≡ false
+  was_stored b s stored =
+      sym (ap (λ (x : ArrayInfo). x.inlined) s.is ∙ inlined_of_left p ops s.count s.old (maker_at p.arrays s.old)) ∙ stored
+
   was_given : (b : ℕ) (s : Stands b) → maker_at q.arrays b ≡ None → maker_at p.arrays s.old ≡ None
   was_given b s none = go (maker_at p.arrays s.old) refl (sym (ap (λ (x : ArrayInfo). x.maker) s.is) ∙ none)
     where
@@ -283,7 +287,7 @@ module _ (p : PlanView) (ops : List Planned) (sound : Sound p) (names : HasMadeN
   -- ---- each is an array
 
   -- a count that the plan had belongs to an array of it, whose name is short
-  name_short : (k a : ℕ) → a < length p.arrays → IsOther p ops a → k ≤ others_before p a → length (made_prefix_of (array_at p.arrays p.out).prefix k) ≤ 45
+  pub name_short : (k a : ℕ) → a < length p.arrays → IsOther p ops a → k ≤ others_before p a → length (made_prefix_of (array_at p.arrays p.out).prefix k) ≤ 45
   name_short k a l other low =
       let own = behind_other p ops (others_before p a) a other in
       let next = next_before p ops a in
@@ -361,15 +365,18 @@ module _ (p : PlanView) (ops : List Planned) (sound : Sound p) (names : HasMadeN
       (other_or_out t.old mt))
       (other_or_out s.old ms)
 
-  -- an encoding that all made arrays have
-  pub encodings_kept : (w : Encoding) → ((a : ℕ) → a < length p.arrays → maker_at p.arrays a ≢ None → (array_at p.arrays a).layout.encoding ≡ w)
-      → (b : ℕ) → b < length q.arrays → maker_at q.arrays b ≢ None → (array_at q.arrays b).layout.encoding ≡ w
-  encodings_kept w all b h made = let s = stands_at b h in ap (λ (l : Layout). l.encoding) (layout_is b s) ∙ all s.old s.within (was_made b s made)
+  -- an encoding that all stored made arrays have
+  pub encodings_kept : (w : Encoding) → ((a : ℕ) → HasCells p.arrays a → (array_at p.arrays a).layout.encoding ≡ w)
+      → (b : ℕ) → HasCells q.arrays b → (array_at q.arrays b).layout.encoding ≡ w
+  encodings_kept w all b h =
+      let s = stands_at b h.within in
+      let was : HasCells p.arrays s.old = record { within = s.within; made = was_made b s h.made; stored = was_stored b s h.stored } in
+      ap (λ (l : Layout). l.encoding) (layout_is b s) ∙ all s.old was
 
   pub own_names : HasOwnNames p.arrays → HasOwnNames q.arrays
   own_names own = record {
     encodings = encodings_kept (Plain Slash) own.encodings;
-    prefixes = λ b c hb hc mb mc e. names_told b c hb hc mb mc e;
+    prefixes = λ b c hb hc e. names_told b c hb.within hc.within hb.made hc.made e;
   }
 
   -- ---- keys
@@ -397,6 +404,7 @@ module _ (p : PlanView) (ops : List Planned) (sound : Sound p) (names : HasMadeN
   was_cell b s coord c = record {
     within = s.within;
     made = was_made b s c.made;
+    stored = was_stored b s c.stored;
     coordinate = subst (λ (l : Layout). IsCoordinate l.grid coord) (layout_is b s) c.coordinate;
   }
 

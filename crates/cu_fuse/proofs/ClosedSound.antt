@@ -1,14 +1,16 @@
 -- The plan that is left after merges is sound, in what doesn't speak of names.
-use Rattle.std.proofs.Common.{◌≡◌, ◌≢◌, ◌⊎◌, inl, inr, ℕ, zero, suc, ◌+◌, ◌<◌, Bool, true, false, List, [], ◌∷◌, ◌++◌, All, Contains, length, map, Option, Some, None, get_or, refl, ap, sym, ◌∙◌, subst, arith, append_assoc, length-append, ⊎_elim, if◌then◌else◌}
+use Rattle.std.proofs.Common.{◌≡◌, ◌≢◌, ◌⊎◌, inl, inr, ℕ, zero, suc, ◌+◌, ◌<◌, ◌^◌, Bool, true, false, List, [], ◌∷◌, ◌++◌, All, Contains, length, map, Option, Some, None, get_or, refl, ap, sym, ◌∙◌, subst, arith, append_assoc, length-append, ⊎_elim, if◌then◌else◌}
 use Rattle.std.specs.List.{slice_get}
 use Rattle.std.proofs.lemmas.Bool.{cases_Bool}
 use Rattle.std.proofs.lemmas.List.{get_or-map, length-map}
 use Rattle.std.proofs.lemmas.List.Elements.{All-cons}
 use Rattle.cu_op.specs.declared.operation.Planned.{Planned}
-use Rattle.cu_op.specs.Arrays.{maker_at}
+use Rattle.cu_op.specs.Arrays.{maker_at, AllStored}
 use Rattle.cu_op.specs.Operation.{reads_of, writes_of, IsBefore, IsReadable, IsMadeBy}
-use Rattle.cu_op.specs.PlanView.{PlanView, operation_at, no_operation}
+use Rattle.cu_op.specs.PlanView.{PlanView, operation_at, op_of, no_operation}
+use Rattle.cu_op.specs.Projection.{own_projection, projection}
 use Rattle.cu_op.specs.Sound.{Sound, IsOperation}
+use Rattle.cu_op.proofs.AllStored.{all_projection}
 use Rattle.cu_op.proofs.Members.{contains_any, any_contains}
 use Rattle.cu_fuse.specs.Close.{remains, has_maker, renumbered_planned, remaining_numbers, maker_of, new_number, closed, setting_of}
 use Rattle.cu_fuse.specs.Fused.{stands_in}
@@ -72,16 +74,24 @@ module _ (p : PlanView) (ops : List Planned) (sound : Sound p) (run : CanRun p.a
   abbrev N : List ℕ
   N = remaining_numbers p.arrays ops
 
+  -- an operation of the plan that is left, whose number of bytes is that of itself alone
+  record IsLeft (number : ℕ) (o : Planned) : Type 0 where
+    operation : IsOperation q.arrays number o.op
+    projected : o.projected ≡ own_projection q.arrays q.reserved o.op
+    room : o.projected < 2 ^ 64
+
   -- an operation behind others, under its new number
   step_is : (front : List Planned) (o : Planned) (back : List Planned) → ops ≡ front ++ o ∷ back → CanFollow p.arrays p.reserved front o
-      → All (Contains N) (reads_of o.op) → All (Contains N) (writes_of o.op) → IsOperation q.arrays q.reserved (length front) (renumbered_planned f o)
+      → All (Contains N) (reads_of o.op) → All (Contains N) (writes_of o.op) → IsLeft (length front) (renumbered_planned f o)
   step_is front o back e step reads writes = record {
-    reads = subst (All (IsReadable q.arrays (length front))) (sym (reads_renumbered f p.arrays q.arrays (Contains N) (kept_layout p ops) (placed_once p ops) o.op))
-        (all_mapped f (λ a. Contains N a × IsAtHand p.arrays front a) (IsReadable q.arrays (length front)) (reads_of o.op) (λ a (c, h). readable a c h) (λ k d b. (reads k d b, step.reads k d b)));
-    writes = subst (All (IsMadeBy q.arrays (length front))) (sym (writes_renumbered f p.arrays q.arrays (Contains N) (kept_layout p ops) (placed_once p ops) o.op))
-        (all_mapped f (λ a. Contains N a × IsNew p.arrays front a × Contains (writes_of o.op) a) (IsMadeBy q.arrays (length front)) (writes_of o.op) (λ a (c, n, w). made a c n w)
-        (λ k d b. (writes k d b, step.writes k d b, (k, b, at_itself (writes_of o.op) k d b))));
-    fits = renumbered_fits f p.arrays q.arrays (Contains N) (kept_layout p ops) (placed_once p ops) o.op reads writes step.fits;
+    operation = record {
+      reads = subst (All (IsReadable q.arrays (length front))) (sym (reads_renumbered f p.arrays q.arrays (Contains N) (kept_layout p ops) (placed_once p ops) o.op))
+          (all_mapped f (λ a. Contains N a × IsAtHand p.arrays front a) (IsReadable q.arrays (length front)) (reads_of o.op) (λ a (c, h). readable a c h) (λ k d b. (reads k d b, step.reads k d b)));
+      writes = subst (All (IsMadeBy q.arrays (length front))) (sym (writes_renumbered f p.arrays q.arrays (Contains N) (kept_layout p ops) (placed_once p ops) o.op))
+          (all_mapped f (λ a. Contains N a × IsNew p.arrays front a × Contains (writes_of o.op) a) (IsMadeBy q.arrays (length front)) (writes_of o.op) (λ a (c, n, w). made a c n w)
+          (λ k d b. (writes k d b, step.writes k d b, (k, b, at_itself (writes_of o.op) k d b))));
+      fits = renumbered_fits f p.arrays q.arrays (Contains N) (kept_layout p ops) (placed_once p ops) o.op reads writes step.fits;
+    };
     projected = step.projected ∙ sym (renumbered_projection f p.arrays q.arrays (Contains N) (kept_layout p ops) (placed_once p ops) o.op p.reserved reads writes);
     room = step.room;
   }
@@ -110,25 +120,35 @@ module _ (p : PlanView) (ops : List Planned) (sound : Sound p) (run : CanRun p.a
 
   -- each by its number
   steps_are : (front os : List Planned) → ops ≡ front ++ os → CanRun p.arrays p.reserved front os → AreLeft N os
-      → (k : ℕ) → k < length os → IsOperation q.arrays q.reserved (length front + k) (renumbered_planned f (operation_at os k))
+      → (k : ℕ) → k < length os → IsLeft (length front + k) (renumbered_planned f (operation_at os k))
   steps_are front [] e run left k h = absurd (omega arith)
   steps_are front (o ∷ os) e (step, rest) ((reads, writes), more) zero h =
-      subst (λ (n : ℕ). IsOperation q.arrays q.reserved n (renumbered_planned f o)) (let z : length front ≡ length front + 0 = omega arith in z) (step_is front o os e step reads writes)
+      subst (λ (n : ℕ). IsLeft n (renumbered_planned f o)) (let z : length front ≡ length front + 0 = omega arith in z) (step_is front o os e step reads writes)
   steps_are front (o ∷ os) e (step, rest) ((reads, writes), more) (suc k) h =
       let l = length-append front (o ∷ []) in
-      subst (λ (n : ℕ). IsOperation q.arrays q.reserved n (renumbered_planned f (operation_at os k))) (let z : length (front ++ o ∷ []) + k ≡ length front + suc k = omega (arith, l) in z)
+      subst (λ (n : ℕ). IsLeft n (renumbered_planned f (operation_at os k))) (let z : length (front ++ o ∷ []) + k ≡ length front + suc k = omega (arith, l) in z)
       (steps_are (front ++ o ∷ []) os (e ∙ sym (append_assoc front (o ∷ []) os)) rest more k (omega arith))
 
   operation_closed : (k : ℕ) → k < length ops → operation_at q.ops k ≡ renumbered_planned f (operation_at ops k)
   operation_closed k h = get_or-map (renumbered_planned f) ops k no_operation no_operation h
 
-  pub operations : (k : ℕ) → k < length q.ops → IsOperation q.arrays q.reserved k (operation_at q.ops k)
-  operations k h =
+  left_at : (k : ℕ) → k < length q.ops → IsLeft k (operation_at q.ops k)
+  left_at k h =
       let l : length q.ops ≡ length ops = length-map ops (renumbered_planned f) in
       let b : k < length ops = omega arith in
-      subst (IsOperation q.arrays q.reserved k) (sym (operation_closed k b))
-      (subst (λ (n : ℕ). IsOperation q.arrays q.reserved n (renumbered_planned f (operation_at ops k))) (let z : 0 + k ≡ k = omega arith in z)
+      subst (IsLeft k) (sym (operation_closed k b))
+      (subst (λ (n : ℕ). IsLeft n (renumbered_planned f (operation_at ops k))) (let z : 0 + k ≡ k = omega arith in z)
       (steps_are [] ops refl run (all_left p ops [] ops refl run) k b))
+
+  pub operations : (k : ℕ) → k < length q.ops → IsOperation q.arrays k (op_of q k)
+  operations k h = (left_at k h).operation
+
+  -- where each array is stored, that is all that it needs
+  pub projections : AllStored q.arrays → (k : ℕ) → k < length q.ops → (operation_at q.ops k).projected ≡ projection q k
+  projections all k h = (left_at k h).projected ∙ sym (all_projection q k all)
+
+  pub rooms : AllStored q.arrays → (k : ℕ) → k < length q.ops → projection q k < 2 ^ 64
+  rooms all k h = subst (λ (n : ℕ). n < 2 ^ 64) (projections all k h) (left_at k h).room
 
   written_of_left : (a : ℕ) → Contains N a → maker_at p.arrays a ≢ None → HasWriter ops a
   written_of_left a c made = go (maker_at p.arrays a) refl ((numbers_out p ops a c).1)

@@ -6,7 +6,7 @@ use Rattle.cu_shape.specs.Index.{IsInside}
 use Rattle.cu_op.specs.declared.layout.ArrayInfo.{ArrayInfo}
 use Rattle.cu_op.specs.declared.layout.Layout.{Layout}
 use Rattle.cu_op.specs.declared.operation.Planned.{Planned}
-use Rattle.cu_op.specs.Arrays.{grid_at, maker_at}
+use Rattle.cu_op.specs.Arrays.{grid_at, maker_at, AllStored}
 use Rattle.cu_op.specs.Operation.{reads_of, writes_of, renumbered}
 use Rattle.cu_op.specs.PlanView.{PlanView}
 use Rattle.cu_op.specs.Sound.{Sound}
@@ -123,9 +123,9 @@ closed_value p ops env sound again run made a idx c inside =
     (new_number (setting_of p) ops a) idx (within p ops a c) there) ∙ e
 
 -- so the value of the result of a plan is that of the plan after its merges
-pub fused_value : (once : Bool) (p : PlanView) (env : Elements) → Sound p → p.allowed < 2 ^ 64 → Sound (fused_by once p) → (a : ℕ) (idx : List ℕ)
+pub fused_value : (once : Bool) (p : PlanView) (env : Elements) → Sound p → AllStored p.arrays → p.allowed < 2 ^ 64 → Sound (fused_by once p) → (a : ℕ) (idx : List ℕ)
     → Contains (remaining_numbers p.arrays (fused_ops (setting_by once p) p.ops)) a → IsInside (grid_at p.arrays a).shape idx
     → plan_value (fused_by once p) (λ b. env (old_number (remaining_numbers p.arrays (fused_ops (setting_by once p) p.ops)) b)) (new_number (setting_of p) (fused_ops (setting_by once p) p.ops) a) idx ≡ plan_value p env a idx
-fused_value once p env sound room again a idx c inside =
-    let (run, made) = fused_sound once p env sound room in
+fused_value once p env sound all room again a idx c inside =
+    let (run, made) = fused_sound once p env sound all room in
     closed_value p (fused_ops (setting_by once p) p.ops) env sound again run made a idx c inside

@@ -6,7 +6,7 @@ use Rattle.cu_op.specs.Arrays.{chunk_room, HasLayoutOf}
 use Rattle.cu_op.specs.Cells.{task_grid}
 use Rattle.cu_op.specs.Kinds.{kind_of}
 use Rattle.cu_op.specs.Operation.{writes_of, reads_of, Fits, renumbered}
-use Rattle.cu_op.specs.Projection.{projection, scratch_room}
+use Rattle.cu_op.specs.Projection.{own_projection, scratch_room}
 use Rattle.cu_op.specs.Elements.{Elements}
 use Rattle.cu_op.specs.Value.{rule}
 use Rattle.cu_op.specs.declared.layout.ArrayInfo.{ArrayInfo}
@@ -49,7 +49,7 @@ module _ (f : ℕ → ℕ) (old new : List ArrayInfo) (Kept : ℕ → Type 0) (k
       ∙ ap (λ l. largest (map (chunk_room new) l)) (sym (map-append f (reads_of op) (writes_of op)))
       ∙ ap largest (rooms_same f old new (reads_of op ++ writes_of op) (All-append (HasLayoutOf f old new) (reads_of op) (writes_of op) (keeps op reads writes).reads (keeps op reads writes).writes))
 
-  pub renumbered_projection : (op : Op) (reserved : ℕ) → All Kept (reads_of op) → All Kept (writes_of op) → projection new reserved (renumbered f op) ≡ projection old reserved op
+  pub renumbered_projection : (op : Op) (reserved : ℕ) → All Kept (reads_of op) → All Kept (writes_of op) → own_projection new reserved (renumbered f op) ≡ own_projection old reserved op
   renumbered_projection op reserved reads writes =
       let law = (laws_of op).renumbered f in
       let own = keeps op reads writes in

@@ -18,13 +18,13 @@ use Rattle.cu_fuse.specs.Fused.{SettingView, may_merge}
 use Rattle.cu_fuse.specs.Once.{one_load}
 
 abbrev named : List ℕ → ArrayInfo
-named name = record { prefix = name; layout = record { dtype = Int32; grid = record { shape = 6 ∷ []; chunk = 4 ∷ [] }; encoding = Plain Slash; endian = Little; fill = pos 0 }; maker = None }
+named name = record { prefix = name; layout = record { dtype = Int32; grid = record { shape = 6 ∷ []; chunk = 4 ∷ [] }; encoding = Plain Slash; endian = Little; fill = pos 0 }; maker = None; inlined = false }
 
 abbrev made : List ℕ → ℕ → ArrayInfo
-made name k = record { prefix = name; layout = record { dtype = Int32; grid = record { shape = 6 ∷ []; chunk = 4 ∷ [] }; encoding = Plain Slash; endian = Little; fill = pos 0 }; maker = Some k }
+made name k = record { prefix = name; layout = record { dtype = Int32; grid = record { shape = 6 ∷ []; chunk = 4 ∷ [] }; encoding = Plain Slash; endian = Little; fill = pos 0 }; maker = Some k; inlined = false }
 
 abbrev with_chunk : ℕ → ArrayInfo
-with_chunk n = record { prefix = codes "t"; layout = record { dtype = Int32; grid = record { shape = 6 ∷ []; chunk = n ∷ [] }; encoding = Plain Slash; endian = Little; fill = pos 0 }; maker = Some 1 }
+with_chunk n = record { prefix = codes "t"; layout = record { dtype = Int32; grid = record { shape = 6 ∷ []; chunk = n ∷ [] }; encoding = Plain Slash; endian = Little; fill = pos 0 }; maker = Some 1; inlined = false }
 
 -- (a + b) * 2, of which the sum is stored under `_cubed/y/0`
 abbrev two_maps : ℕ → PlanView
@@ -129,7 +129,7 @@ closed_example = refl
 -- ---- one input, one load
 
 abbrev truths : List ℕ → ℕ → ArrayInfo
-truths name k = record { prefix = name; layout = record { dtype = Bool; grid = record { shape = 6 ∷ []; chunk = 4 ∷ [] }; encoding = Plain Slash; endian = Little; fill = pos 0 }; maker = Some k }
+truths name k = record { prefix = name; layout = record { dtype = Bool; grid = record { shape = 6 ∷ []; chunk = 4 ∷ [] }; encoding = Plain Slash; endian = Little; fill = pos 0 }; maker = Some k; inlined = false }
 
 -- q * q with q = square(where(a != 3, a, 0)): a comparison, a choice, a square and a product
 abbrev squares : PlanView

@@ -4,12 +4,14 @@ use Rattle.std.proofs.Math.Seq.{get_or-append_seam}
 use Rattle.std.proofs.lemmas.List.{get_or_append_left}
 use Rattle.std.proofs.lemmas.List.Elements.{All-contains}
 use Rattle.cu_op.specs.declared.operation.Planned.{Planned}
-use Rattle.cu_op.specs.Arrays.{maker_at}
+use Rattle.cu_op.specs.Arrays.{maker_at, AllStored}
 use Rattle.cu_op.specs.Operation.{reads_of, writes_of, IsBefore, IsMadeBy}
 use Rattle.cu_op.specs.PlanView.{PlanView, operation_at, no_operation}
+use Rattle.cu_op.specs.Projection.{own_projection}
 use Rattle.cu_op.specs.Sound.{Sound, IsOperation}
 use Rattle.cu_op.specs.Elements.{Elements}
 use Rattle.cu_op.specs.Value.{rule, plan_value}
+use Rattle.cu_op.proofs.AllStored.{all_projection}
 use Rattle.cu_op.proofs.Values.{one_maker, value_solves}
 use Rattle.cu_fuse.specs.Close.{setting_by}
 use Rattle.cu_fuse.specs.Fused.{fused_ops}
@@ -26,7 +28,7 @@ written_by [] a h = absurd h
 written_by (x ∷ xs) a (inl h) = (0, omega arith, h)
 written_by (x ∷ xs) a (inr h) = let (n, l, w) = written_by xs a h in (suc n, omega arith, w)
 
-module _ (p : PlanView) (sound : Sound p) where
+module _ (p : PlanView) (sound : Sound p) (all : AllStored p.arrays) where
   -- an operation behind others has their count as its number
   its_number : (before os : List Planned) (o : Planned) → p.ops ≡ before ++ o ∷ os → operation_at p.ops (length before) ≡ o
   its_number before os o e = ap (λ ops. operation_at ops (length before)) e ∙ get_or-append_seam before o os no_operation
@@ -37,8 +39,16 @@ module _ (p : PlanView) (sound : Sound p) where
   counted : (before os : List Planned) (o : Planned) → p.ops ≡ before ++ o ∷ os → length before < length p.ops
   counted before os o e = let n = ap length e ∙ length-append before (o ∷ os) in omega (arith, n)
 
-  its_facts : (before os : List Planned) (o : Planned) → p.ops ≡ before ++ o ∷ os → IsOperation p.arrays p.reserved (length before) o
-  its_facts before os o e = subst (IsOperation p.arrays p.reserved (length before)) (its_number before os o e) (sound.operations (length before) (counted before os o e))
+  its_facts : (before os : List Planned) (o : Planned) → p.ops ≡ before ++ o ∷ os → IsOperation p.arrays (length before) o.op
+  its_facts before os o e = subst (λ (x : Planned). IsOperation p.arrays (length before) x.op) (its_number before os o e) (sound.operations (length before) (counted before os o e))
+
+  -- it needs what it needs alone
+  its_room : (before os : List Planned) (o : Planned) → p.ops ≡ before ++ o ∷ os → (o.projected ≡ own_projection p.arrays p.reserved o.op) × (o.projected < 2 ^ 64)
+  its_room before os o e =
+      let k : ℕ = length before in
+      let within = counted before os o e in
+      subst (λ (x : Planned). (x.projected ≡ own_projection p.arrays p.reserved x.op) × (x.projected < 2 ^ 64)) (its_number before os o e)
+      (sound.projections k within ∙ all_projection p k all, subst (λ (n : ℕ). n < 2 ^ 64) (sym (sound.projections k within)) (sound.rooms k within))
 
   hand : (before os : List Planned) (a : ℕ) (m : Option ℕ) → p.ops ≡ before ++ os → a < length p.arrays → maker_at p.arrays a ≡ m → IsBefore m (length before) → (maker_at p.arrays a ≡ None) ⊎ HasWriter before a
   hand before os a None e within is l = inl is
@@ -62,8 +72,8 @@ module _ (p : PlanView) (sound : Sound p) where
         reads = λ k d b. let r = f.reads k d b in (r.0, hand before (o ∷ os) (get_or (reads_of o.op) k d) (maker_at p.arrays (get_or (reads_of o.op) k d)) e r.0 refl r.1);
         writes = λ k d b. let w = f.writes k d b in (w.0, (λ none. some_none (w.1) none), never before os o (get_or (writes_of o.op) k d) e w);
         fits = f.fits;
-        projected = f.projected;
-        room = f.room;
+        projected = (its_room before os o e).0;
+        room = (its_room before os o e).1;
       }
     where
       some_none : {x : Option ℕ} {k : ℕ} → x ≡ Some k → x ≡ None → ⊥
@@ -84,6 +94,7 @@ module _ (p : PlanView) (sound : Sound p) where
   )
 
 -- the merged list of a sound plan can run, and the plan's values are what it makes
-pub fused_sound : (once : Bool) (p : PlanView) (env : Elements) → Sound p → p.allowed < 2 ^ 64
+pub fused_sound : (once : Bool) (p : PlanView) (env : Elements) → Sound p → AllStored p.arrays → p.allowed < 2 ^ 64
     → CanRun p.arrays p.reserved [] (fused_ops (setting_by once p) p.ops) × AreMade p.arrays (plan_value p env) (fused_ops (setting_by once p) p.ops)
-fused_sound once p env sound room = fused_runs (setting_by once p) p.ops (plan_value p env) room (sound_runs p sound [] p.ops refl) (sound_made p sound env [] p.ops refl)
+fused_sound once p env sound all room =
+    fused_runs (setting_by once p) p.ops (plan_value p env) room (sound_runs p sound all [] p.ops refl) (sound_made p sound all env [] p.ops refl)

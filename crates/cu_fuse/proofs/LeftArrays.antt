@@ -1,14 +1,16 @@
 -- The arrays that are left, under their new numbers.
-use Rattle.std.proofs.Common.{◌≡◌, ◌≢◌, ◌⊎◌, inl, inr, ℕ, zero, suc, ◌+◌, ◌<◌, ◌≤◌, true, List, [], ◌∷◌, Contains, length, Option, Some, None, get_or, refl, ap, sym, ◌∙◌, subst, arith, ⊎_elim, if◌then◌else◌}
+use Rattle.std.proofs.Common.{◌≡◌, ◌≢◌, ◌⊎◌, inl, inr, ℕ, zero, suc, ◌+◌, ◌<◌, ◌≤◌, true, false, List, [], ◌∷◌, Contains, length, Option, Some, None, get_or, refl, ap, sym, ◌∙◌, subst, arith, ⊎_elim, if◌then◌else◌}
 use Rattle.std.specs.List.{slice_get}
 use Rattle.std.proofs.lemmas.Bool.{cases_Bool}
+use Rattle.std.proofs.lemmas.List.{get_or_default}
 use Rattle.std.proofs.lemmas.Option.{slice_get_within, get_or_from_slice_get, slice_get-get_or}
 use Rattle.cu_op.specs.declared.layout.ArrayInfo.{ArrayInfo}
 use Rattle.cu_op.specs.declared.operation.Planned.{Planned}
-use Rattle.cu_op.specs.Arrays.{array_at, maker_at}
+use Rattle.cu_op.specs.Arrays.{array_at, is_inlined, maker_at, no_array, AllStored}
 use Rattle.cu_op.specs.PlanView.{PlanView}
 use Rattle.cu_fuse.specs.Close.{remains, remaining_from, remaining_numbers, maker_of, remaining_array, count_behind, remaining_arrays, new_number, closed, setting_of}
 use Rattle.cu_fuse.proofs.Distinct.{at_place}
+use Rattle.cu_op.proofs.AllStored.{stored_at}
 use Rattle.cu_op.proofs.Members.{contains_any}
 
 -- ---- which numbers are left
@@ -117,6 +119,11 @@ module _ (p : PlanView) (ops : List Planned) where
   layout_of_left c a None = refl
   layout_of_left c a (Some m) = refl
 
+  -- it is stored or made where it is read as it was
+  pub inlined_of_left : (c a : ℕ) (m : Option ℕ) → (remaining_array (setting_of p) ops c a m).inlined ≡ is_inlined p.arrays a
+  inlined_of_left c a None = refl
+  inlined_of_left c a (Some m) = refl
+
   maker_of_left : (c a : ℕ) (m : Option ℕ) → maker_at p.arrays a ≡ m → ((m ≡ None) × ((remaining_array (setting_of p) ops c a m).maker ≡ None)) ⊎ ((m ≢ None) × ((remaining_array (setting_of p) ops c a m).maker ≡ Some (maker_of ops a)))
   maker_of_left c a None e = inl (refl, e)
   maker_of_left c a (Some m) e = inr ((λ h. none_some h), refl)
@@ -153,6 +160,13 @@ module _ (p : PlanView) (ops : List Planned) where
       let e : slice_get (remaining_numbers p.arrays ops) b ≡ Some a = slice_get-get_or (remaining_numbers p.arrays ops) b 0 w in
       let (c, is) = array_left 0 b (remaining_numbers p.arrays ops) a e in
       (a, (b, w, get_or_from_slice_get (remaining_numbers p.arrays ops) b a a e), refl, e, c, is)
+
+  -- where each array is stored, each that is left is
+  pub left_stored : AllStored p.arrays → AllStored (closed (setting_of p) ops).arrays
+  left_stored all k d h =
+      let (a, _, _, _, n, e) = old_array k h in
+      subst (λ (x : ArrayInfo). x.inlined ≡ false) (get_or_default (closed (setting_of p) ops).arrays k no_array d h)
+      (ap (λ (x : ArrayInfo). x.inlined) e ∙ inlined_of_left n a (maker_at p.arrays a) ∙ stored_at p.arrays a all)
 
   -- an input of it was one
   pub was_input : (c a : ℕ) → (remaining_array (setting_of p) ops c a (maker_at p.arrays a)).maker ≡ None → maker_at p.arrays a ≡ None

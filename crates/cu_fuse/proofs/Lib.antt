@@ -22,6 +22,33 @@ pub mod SmallNumbers
 pub mod Scanning
 pub mod MergedAway
 pub mod MergedAll
+pub mod LeastSizes
+pub mod PutTogether
+pub mod Replacing
+pub mod JointCopy
+pub mod CopyLists
+pub mod ClosedPlans
+pub mod ClosedMade
+pub mod JoinedCopies
+pub mod CopyRules
 pub mod Renumbering
 pub mod Rules
+pub mod AlikeKinds
+pub mod Inside
+pub mod ReadOnce
+pub mod Flagged
+pub mod Chosen
+pub mod ChosenRooms
+pub mod Choices
+pub mod InlinedPlans
+pub mod InlinedNames
+pub mod InlinedSound
+pub mod InlinedLaw
+pub mod Filling
+pub mod Finished
+pub mod Renaming
+pub mod Made
+pub mod Grown
+mod CopyExamples
 mod Examples
+mod InlinedExamples

@@ -5,7 +5,7 @@ use Rattle.std.proofs.lemmas.List.Elements.{All-cons, All-weaker}
 use Rattle.cu_op.specs.declared.operation.Planned.{Planned}
 use Rattle.cu_op.specs.Elements.{Elements}
 use Rattle.cu_op.specs.Operation.{reads_of, writes_of}
-use Rattle.cu_op.specs.Projection.{projection}
+use Rattle.cu_op.specs.Projection.{own_projection}
 use Rattle.cu_fuse.specs.Fused.{SettingView, loaded_ops, with_one_load}
 use Rattle.cu_fuse.specs.Once.{one_load}
 use Rattle.cu_fuse.specs.Runs.{AreMade, CanFollow, CanRun, HasWriter, IsAtHand, IsNew, IsOverArrays}
@@ -89,7 +89,7 @@ loaded_has s P ops plain once = go s.once
 
 pub record IsLoadable (s : SettingView) (o : Planned) : Type 0 where
   pub over : IsOverArrays s.arrays o.op
-  pub projected : o.projected ≡ projection s.arrays s.reserved o.op
+  pub projected : o.projected ≡ own_projection s.arrays s.reserved o.op
   pub room : o.projected < 2 ^ 64
 
 pub all_loadable : (s : SettingView) (before ops : List Planned)

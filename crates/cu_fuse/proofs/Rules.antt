@@ -1,8 +1,8 @@
 -- The tests of a merge say what its rule says.
-use Rattle.std.proofs.Common.{◌≡◌, ◌⊎◌, true≢false, inl, inr, ℕ, zero, suc, ◌+◌, ◌<◌, ◌≤◌, ◌==◌, ◌&&◌, not, nat_le, cond, Bool, true, false, List, [], ◌∷◌, length, drop, refl, ap, sym, ◌∙◌, arith}
+use Rattle.std.proofs.Common.{◌≡◌, ◌⊎◌, true≢false, inl, inr, ℕ, zero, suc, ◌+◌, ◌<◌, ◌≤◌, ◌==◌, ◌&&◌, not, nat_le, cond, Bool, true, false, List, [], ◌∷◌, ◌++◌, length, drop, refl, ap, sym, ◌∙◌, arith}
 use Rattle.std.specs.List.{count_by, list_any}
 use Rattle.std.specs.Prelude.{flat_map}
-use Rattle.std.proofs.lemmas.Bool.{cases_Bool, leb-true}
+use Rattle.std.proofs.lemmas.Bool.{and_parts, cases_Bool, leb-true}
 use Rattle.std.proofs.lemmas.Bool.Decides.{eqb_tells, nat_tests}
 use Rattle.std.proofs.lemmas.List.Sums.{sum_by-append, sum_by-cons}
 use Rattle.std.proofs.lemmas.Slice.Eq.{bytes_eq-Decides}
@@ -11,7 +11,7 @@ use Rattle.cu_op.specs.declared.operation.Planned.{Planned}
 use Rattle.cu_op.specs.Arrays.{grid_at}
 use Rattle.cu_op.specs.Operation.{reads_of, target_of}
 use Rattle.cu_op.specs.Projection.{instruction_count}
-use Rattle.cu_fuse.specs.Fused.{SettingView, is_reader, joint, joint_op, may_merge, same_grid, stands_in, stands_once}
+use Rattle.cu_fuse.specs.Fused.{SettingView, has_one_reader, is_reader, joint, joint_op, may_merge, same_grid, stands_in, stands_once}
 use Rattle.cu_op.specs.Numbers.{number_in}
 use Rattle.cu_fuse.specs.Rule.{MayMerge}
 use Rattle.cu_fuse.proofs.Fusing.{tested, grids_equal}
@@ -100,6 +100,32 @@ zero_unread (o ∷ os) a h =
     let own : is_reader a o ≡ false = zero_absent (reads_of o.op) a (omega (arith, c, h)) in
     let rest = zero_unread os a (omega (arith, c, h)) in
     rw own rest
+
+-- one input alone reads the array
+pub read_alone : (reader : Planned) (behind : List Planned) (a : ℕ) → has_one_reader reader behind a ≡ true
+    → (stands_in (reads_of reader.op) a ≡ true) × (count_by (λ b. b == a) (reads_of reader.op ++ flat_map (λ o. reads_of o.op) behind) ≡ 1)
+read_alone reader behind a h =
+    let both = and_parts (stands_once (reads_of reader.op) a) (not (list_any (is_reader a) behind)) h in
+    let once = and_parts (stands_in (reads_of reader.op) a) (not (stands_in (drop (number_in (reads_of reader.op) a + 1) (reads_of reader.op)) a)) both.0 in
+    let c = sum_by-append (λ (b : ℕ). cond (b == a) 1 0) (reads_of reader.op) (reads behind) in
+    let own = once_one (reads_of reader.op) a both.0 in
+    let rest = unread_zero behind a (not_is _ both.1) in
+    (once.0, omega (arith, c, own, rest))
+  where
+    not_is : (b : Bool) → not b ≡ true → b ≡ false
+    not_is true h = cc
+    not_is false h = refl
+
+pub alone_read : (reader : Planned) (behind : List Planned) (a : ℕ) → stands_in (reads_of reader.op) a ≡ true
+    → count_by (λ b. b == a) (reads_of reader.op ++ flat_map (λ o. reads_of o.op) behind) ≡ 1 → has_one_reader reader behind a ≡ true
+alone_read reader behind a read all =
+    let c = sum_by-append (λ (b : ℕ). cond (b == a) 1 0) (reads_of reader.op) (reads behind) in
+    let some = present_some (reads_of reader.op) a read in
+    let own : count (reads_of reader.op) a ≡ 1 = omega (arith, c, all, some) in
+    let rest : count (reads behind) a ≡ 0 = omega (arith, c, all, some) in
+    let once = one_once (reads_of reader.op) a own in
+    let alone = ap not (zero_unread behind a rest) in
+    λ i. once i && alone i
 
 -- ---- the rule
 

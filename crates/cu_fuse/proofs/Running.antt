@@ -12,7 +12,7 @@ use Rattle.cu_op.specs.declared.operation.Op.TheVariants.{Map}
 use Rattle.cu_op.specs.declared.operation.Planned.{Planned}
 use Rattle.cu_op.specs.Arrays.{grid_at, maker_at}
 use Rattle.cu_op.specs.Operation.{reads_of, writes_of, Fits}
-use Rattle.cu_op.specs.Projection.{projection}
+use Rattle.cu_op.specs.Projection.{own_projection}
 use Rattle.cu_op.specs.Elements.{Elements}
 use Rattle.cu_op.specs.Value.{rule}
 use Rattle.cu_fuse.specs.Merge.{merged_op, Joins, IsMerged}
@@ -108,7 +108,7 @@ only_one x y (suc k, l, e) = absurd (omega arith)
 -- one operation that does what the reader does with its maker merged in
 pub record IsJoint (arrays : List ArrayInfo) (reserved : ℕ) (maker reader both : Planned) (j : ℕ) : Type 0 where
   pub same : DoesSame arrays (merged_op maker.op reader.op j) both.op
-  pub projected : both.projected ≡ projection arrays reserved both.op
+  pub projected : both.projected ≡ own_projection arrays reserved both.op
   pub room : both.projected < 2 ^ 64
 
 pub joint_of : (arrays : List ArrayInfo) (reserved : ℕ) (maker reader both : Planned) (j : ℕ) → IsMerged arrays reserved maker reader both j → IsJoint arrays reserved maker reader both j

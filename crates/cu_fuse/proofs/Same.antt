@@ -23,7 +23,7 @@ use Rattle.cu_op.specs.KernelTypes.{GivesOperand, KernelFits, Operand}
 use Rattle.cu_op.specs.Kind.Map.{MapFits, loaded}
 use Rattle.cu_op.specs.Numbers.{number_in}
 use Rattle.cu_op.specs.Operation.{Fits, reads_of, target_of, writes_of}
-use Rattle.cu_op.specs.Projection.{HasSmallRegions, projection}
+use Rattle.cu_op.specs.Projection.{HasSmallRegions, own_projection}
 use Rattle.cu_op.specs.Value.{rule}
 use Rattle.cu_op.proofs.Alike.{same_then}
 use Rattle.cu_fuse.specs.Once.{distinct, loaded_by, loading_once, one_load, over_distinct}
@@ -147,9 +147,9 @@ module _ (arrays : List ArrayInfo) (code : List Instr) (ins : List ℕ) (out : �
       (Contains-append_right ins (out ∷ []) a c)) (out ∷ []) (All-contains_itself (out ∷ []))))
 
   once_needs : (reserved : ℕ)
-      → projection arrays reserved
+      → own_projection arrays reserved
       (one_load (Map (record { code = record { items = code } }) (record { items = ins }) out))
-      ≤ projection arrays reserved (Map (record { code = record { items = code } })
+      ≤ own_projection arrays reserved (Map (record { code = record { items = code } })
       (record { items = ins }) out)
   once_needs reserved =
       let scratch = same_scratch in
@@ -167,7 +167,7 @@ pub record DoesSame (arrays : List ArrayInfo) (op other : Op) : Type 0 where
   pub fits : Fits arrays op → Fits arrays other
   pub value : Fits arrays op → (at : Elements) (a : ℕ) (idx : List ℕ)
       → rule other arrays at a idx ≡ rule op arrays at a idx
-  pub needs : (reserved : ℕ) → projection arrays reserved other ≤ projection arrays reserved op
+  pub needs : (reserved : ℕ) → own_projection arrays reserved other ≤ own_projection arrays reserved op
 
 pub does_itself : (arrays : List ArrayInfo) (op : Op) → DoesSame arrays op op
 does_itself arrays op = record {

@@ -12,7 +12,7 @@ use Rattle.cu_op.specs.declared.operation.Op.TheVariants.{Map}
 use Rattle.cu_op.specs.declared.operation.Planned.{Planned}
 use Rattle.cu_op.specs.declared.layout.ArrayInfo.{ArrayInfo}
 use Rattle.cu_op.specs.Operation.{reads_of, writes_of}
-use Rattle.cu_op.specs.Projection.{projection}
+use Rattle.cu_op.specs.Projection.{own_projection}
 use Rattle.cu_fuse.specs.Close.{has_maker, maker_of, remaining_from, remaining_numbers, remains}
 use Rattle.cu_fuse.specs.Fused.{has_one_reader, is_map, is_reader, map_inputs, reader_of, stands_in, stands_once}
 use Rattle.cu_op.specs.Numbers.{number_in}
@@ -87,7 +87,7 @@ pub not_below : (m n : ℕ) → n ≤ m → nat_lt m n ≡ false
 not_below m n h = grind (arith, nat_tests)
 
 -- what is reserved counts once
-pub reserved_apart : (arrays : List ArrayInfo) (reserved : ℕ) (op : Op) → projection arrays reserved op ≡ reserved + projection arrays 0 op
+pub reserved_apart : (arrays : List ArrayInfo) (reserved : ℕ) (op : Op) → own_projection arrays reserved op ≡ reserved + own_projection arrays 0 op
 reserved_apart arrays reserved op = omega arith
 
 pub no_map : (op : Op) → ((kernel : Kernel) (ins : ArrayVec ℕ) (out : ℕ) → op ≡ Map kernel ins out → ⊥) → is_map op ≡ false

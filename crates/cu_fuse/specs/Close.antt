@@ -43,6 +43,7 @@ remaining_array s ops k a (Some maker) = record {
   prefix = if a == s.out then (array_at s.arrays a).prefix else made_prefix_of (array_at s.arrays s.out).prefix k;
   layout = (array_at s.arrays a).layout;
   maker = Some (maker_of ops a);
+  inlined = (array_at s.arrays a).inlined;
 }
 
 -- how many made arrays other than the output come before the next array

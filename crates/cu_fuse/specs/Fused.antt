@@ -9,7 +9,7 @@ use Rattle.cu_op.specs.declared.operation.Op.TheVariants.{Map}
 use Rattle.cu_op.specs.declared.operation.Planned.{Planned}
 use Rattle.cu_op.specs.Arrays.{grid_at}
 use Rattle.cu_op.specs.Operation.{reads_of, writes_of, target_of}
-use Rattle.cu_op.specs.Projection.{projection, instruction_count}
+use Rattle.cu_op.specs.Projection.{own_projection, instruction_count}
 use Rattle.cu_fuse.specs.Merge.{merged_op}
 use Rattle.cu_fuse.specs.Once.{loaded_by, one_load}
 
@@ -54,7 +54,7 @@ joint_op s maker reader a = loaded_by s.once (merged_op maker.op reader.op (numb
 -- it belongs to the reader's node
 abbrev pub joint : SettingView → Planned → Planned → ℕ → Planned
 joint s maker reader a =
-    record { op = joint_op s maker reader a; node = reader.node; projected = projection s.arrays s.reserved (joint_op s maker reader a) }
+    record { op = joint_op s maker reader a; node = reader.node; projected = own_projection s.arrays s.reserved (joint_op s maker reader a) }
 
 -- ---- when a maker is merged into a reader of its array
 
@@ -108,7 +108,7 @@ merged_all s (a ∷ rest) ops = merged_all s rest (merged_away s a ops)
 
 -- an operation that loads each array once
 abbrev pub with_one_load : SettingView → Planned → Planned
-with_one_load s o = record { op = one_load o.op; node = o.node; projected = projection s.arrays s.reserved (one_load o.op) }
+with_one_load s o = record { op = one_load o.op; node = o.node; projected = own_projection s.arrays s.reserved (one_load o.op) }
 
 -- the operations before the merges
 abbrev pub loaded_ops : SettingView → List Planned → List Planned

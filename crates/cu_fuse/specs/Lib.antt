@@ -1,7 +1,15 @@
+pub mod Choosing
 pub mod Close
+pub mod Copies
+pub mod CopyRule
 pub mod Fused
+pub mod Inlining
+pub mod Least
+pub mod LeastRule
 pub mod Merge
 pub mod Once
+pub mod Rooms
 pub mod Rule
 pub mod Runs
 pub mod Splice
+pub mod Together

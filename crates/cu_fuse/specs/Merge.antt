@@ -7,7 +7,7 @@ use Rattle.cu_op.specs.declared.operation.Op.{Op}
 use Rattle.cu_op.specs.declared.operation.Op.TheVariants.{Map}
 use Rattle.cu_op.specs.declared.operation.Planned.{Planned}
 use Rattle.cu_op.specs.Arrays.{grid_at}
-use Rattle.cu_op.specs.Projection.{projection}
+use Rattle.cu_op.specs.Projection.{own_projection}
 use Rattle.cu_fuse.specs.Runs.{HasReader}
 use Rattle.cu_fuse.specs.Splice.{put_in, spliced}
 
@@ -51,5 +51,5 @@ pub record Joins (arrays : List ArrayInfo) (r : Around) (array j : ℕ) : Type 0
 pub record IsMerged (arrays : List ArrayInfo) (reserved : ℕ) (maker reader both : Planned) (j : ℕ) : Type 0 where
   pub op : both.op ≡ merged_op maker.op reader.op j
   pub node : both.node ≡ reader.node
-  pub projected : both.projected ≡ projection arrays reserved both.op
+  pub projected : both.projected ≡ own_projection arrays reserved both.op
   pub room : both.projected < 2 ^ 64

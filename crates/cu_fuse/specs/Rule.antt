@@ -3,7 +3,7 @@ use Rattle.std.specs.Prelude.{◌≡◌, ◌≢◌, ℕ, ◌≤◌, ◌==◌, tr
 use Rattle.cu_op.specs.declared.operation.Planned.{Planned}
 use Rattle.cu_op.specs.Arrays.{grid_at}
 use Rattle.cu_op.specs.Operation.{reads_of, target_of}
-use Rattle.cu_op.specs.Projection.{projection, instruction_count}
+use Rattle.cu_op.specs.Projection.{own_projection, instruction_count}
 use Rattle.cu_fuse.specs.Fused.{SettingView, is_map, joint_op, stands_in}
 
 -- Both are maps. The array isn't the output; one input of the reader is the array, and no other of it or of the operations behind it; and it
@@ -17,4 +17,4 @@ pub record MayMerge (s : SettingView) (maker reader : Planned) (behind : List Pl
   pub grid : grid_at s.arrays a ≡ grid_at s.arrays (target_of reader.op)
   pub inputs : length (reads_of (joint_op s maker reader a)) ≤ 8
   pub instructions : instruction_count (joint_op s maker reader a) ≤ 32
-  pub allowed : projection s.arrays s.reserved (joint_op s maker reader a) ≤ s.allowed
+  pub allowed : own_projection s.arrays s.reserved (joint_op s maker reader a) ≤ s.allowed

@@ -7,7 +7,7 @@ use Rattle.cu_op.specs.declared.operation.Op.{Op}
 use Rattle.cu_op.specs.declared.operation.Planned.{Planned}
 use Rattle.cu_op.specs.Arrays.{maker_at, grid_at}
 use Rattle.cu_op.specs.Operation.{reads_of, writes_of, Fits}
-use Rattle.cu_op.specs.Projection.{projection}
+use Rattle.cu_op.specs.Projection.{own_projection}
 use Rattle.cu_op.specs.Elements.{Elements}
 use Rattle.cu_op.specs.Value.{rule}
 
@@ -33,7 +33,7 @@ pub record CanFollow (arrays : List ArrayInfo) (reserved : ℕ) (before : List P
   pub reads : All (IsAtHand arrays before) (reads_of o.op)
   pub writes : All (IsNew arrays before) (writes_of o.op)
   pub fits : Fits arrays o.op
-  pub projected : o.projected ≡ projection arrays reserved o.op
+  pub projected : o.projected ≡ own_projection arrays reserved o.op
   pub room : o.projected < 2 ^ 64
 
 -- the operations can run behind these, in order

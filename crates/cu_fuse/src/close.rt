@@ -59,6 +59,7 @@ fn remaining_array(setting: &MergeSetting, ops: &[Planned], others: u32, a: u32)
             },
             layout: array.layout,
             maker: Some(maker_of(ops, a) as u32),
+            inlined: array.inlined,
         },
     }
 }

@@ -2,7 +2,7 @@
 ghost use Rattle.std.specs.Prelude.{◌≡◌, ◌<◌, ◌≤◌, ◌&&◌, ◌^◌, All, IfSome, OnSome, None, false, true, length};
 ghost use Rattle.cu_op.specs.Layout.{IsArray};
 ghost use Rattle.cu_op.specs.Operation.{reads_of, writes_of};
-ghost use Rattle.cu_op.specs.Projection.{projection};
+ghost use Rattle.cu_op.specs.Projection.{own_projection};
 ghost use Rattle.cu_fuse.specs.Fused.{are_maps, is_small, joint, stands_in};
 ghost use Rattle.cu_fuse.specs.Runs.{IsOverArrays};
 
@@ -10,19 +10,19 @@ use crate::inputs::put_in;
 use crate::once::loaded_map;
 use crate::setting::MergeSetting;
 use crate::splice::{Inner, spliced};
-use cu_op::{Op, Planned, number_in, one_map_law, projection_of};
+use cu_op::{Op, Planned, number_in, one_map_law, own_projection};
 
 /// An operation that belongs to this node; none where it needs more than is allowed.
-fn within_allowed(setting: &MergeSetting, op: Op, node: u32) -> Option<Planned>
+pub(crate) fn within_allowed(setting: &MergeSetting, op: Op, node: u32) -> Option<Planned>
     requires reads { All (λ a. a < length setting.now.arrays) (reads_of op) }
     requires writes { All (λ a. a < length setting.now.arrays) (writes_of op) }
-    requires room { projection setting.now.arrays 0 op < 2 ^ 64 }
-    ensures planned { IfSome result (λ o. o ≡ record { op = op; node = node; projected = projection setting.now.arrays setting.now.reserved op }) }
-    ensures within { OnSome result (projection setting.now.arrays setting.now.reserved op ≤ setting.now.allowed) }
-    ensures over { result ≡ None → setting.now.allowed < projection setting.now.arrays setting.now.reserved op }
+    requires room { own_projection setting.now.arrays 0 op < 2 ^ 64 }
+    ensures planned { IfSome result (λ o. o ≡ record { op = op; node = node; projected = own_projection setting.now.arrays setting.now.reserved op }) }
+    ensures within { OnSome result (own_projection setting.now.arrays setting.now.reserved op ≤ setting.now.allowed) }
+    ensures over { result ≡ None → setting.now.allowed < own_projection setting.now.arrays setting.now.reserved op }
 {
     let allowed = setting.allowed;
-    let own = projection_of(&setting.arrays, 0, &op);
+    let own = own_projection(&setting.arrays, 0, &op);
     let Some(projected) = setting.reserved.checked_add(own) else {
         return None;
     };

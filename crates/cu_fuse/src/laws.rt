@@ -3,7 +3,7 @@
 ghost use Rattle.std.specs.Prelude.{All, Contains, ◌≡◌, ◌≢◌, ◌<◌, ◌≤◌, ◌+◌, ◌++◌, [], ℕ, ℤ, List, Option, Some, length, ◌⊎◌, None, ◌^◌, ◌↔◌, false, true};
 ghost use Rattle.std.specs.List.{slice_get};
 ghost use Rattle.cu_op.specs.Operation.{renumbered, reads_of, writes_of, Fits};
-ghost use Rattle.cu_op.specs.Arrays.{HasLayoutOf, grid_at, array_at, maker_at};
+ghost use Rattle.cu_op.specs.Arrays.{AllStored, HasLayoutOf, grid_at, array_at, maker_at};
 ghost use Rattle.cu_fuse.specs.Close.{fused, fused_loading_once, HasMadeNames, HasInputsFirst};
 ghost use Rattle.cu_fuse.specs.Fused.{SettingView, is_map, may_merge, stands_in};
 ghost use Rattle.cu_fuse.specs.Merge.{Around, apart_ops, joined_ops, Joins, IsMerged};
@@ -17,7 +17,7 @@ ghost use Rattle.cu_op.specs.Kernel.{kernel_value};
 ghost use Rattle.cu_op.specs.KernelTypes.{KernelFits};
 ghost use Rattle.cu_op.specs.Names.{HasOwnNames};
 ghost use Rattle.cu_op.specs.PlanView.{PlanView, operation_at};
-ghost use Rattle.cu_op.specs.Projection.{instruction_count, projection};
+ghost use Rattle.cu_op.specs.Projection.{instruction_count, own_projection};
 ghost use Rattle.cu_op.specs.Sound.{Sound};
 ghost use Rattle.cu_op.specs.Elements.{Elements};
 ghost use Rattle.cu_op.specs.Value.{rule, plan_value};
@@ -82,22 +82,23 @@ pub fn one_load_law()
     ensures loads { (code : List Instr) (j k input : ℕ) → j < k → k + 1 < length (loading_once code) → slice_get (loading_once code) j ≡ Some (Load input)
         → slice_get (loading_once code) k ≡ Some (Load input) → ⊥ }
     ensures fewer { (op : Op) → (length (reads_of (one_load op)) ≤ length (reads_of op)) × (instruction_count (one_load op) ≤ instruction_count op) }
-    ensures needs { (arrays : List ArrayInfo) (reserved : ℕ) (op : Op) → projection arrays reserved (one_load op) ≤ projection arrays reserved op }
+    ensures needs { (arrays : List ArrayInfo) (reserved : ℕ) (op : Op) → own_projection arrays reserved (one_load op) ≤ own_projection arrays reserved op }
     ensures other { (op : Op) → is_map op ≡ false → one_load op ≡ op }
 {}
 
-/// A sound plan with the names of made arrays is sound after the merges of its maps; each of its operations needs at most what is allowed,
+/// A sound plan of stored arrays, with the names of made arrays, is sound after the merges of its maps, and its arrays are stored; each of its operations needs at most what is allowed,
 /// where each of the plan's does. Where the plan's inputs come first, they are its inputs under the same numbers, and its result has the
 /// values of the plan's result over the same environment. The result has the name and the layout that it had, and is made where it was.
 pub fn fused_law()
-    ensures sound { (p : PlanView) → Sound p → HasMadeNames p → p.allowed < 2 ^ 64 → Sound (fused p) }
+    ensures stored { (p : PlanView) → AllStored p.arrays → AllStored (fused p).arrays }
+    ensures sound { (p : PlanView) → Sound p → AllStored p.arrays → HasMadeNames p → p.allowed < 2 ^ 64 → Sound (fused p) }
     ensures fewer { (p : PlanView) → p.allowed < 2 ^ 64 → length (fused p).ops ≤ length p.ops }
     ensures needs { (p : PlanView) (k : ℕ) → p.allowed < 2 ^ 64 → ((j : ℕ) → j < length p.ops → (operation_at p.ops j).projected ≤ p.allowed)
         → k < length (fused p).ops → (operation_at (fused p).ops k).projected ≤ p.allowed }
     ensures inputs { (p : PlanView) (n a : ℕ) → Sound p → HasMadeNames p → p.allowed < 2 ^ 64 → HasInputsFirst p n → a < n
         → array_at (fused p).arrays a ≡ array_at p.arrays a }
     ensures first { (p : PlanView) (n : ℕ) → Sound p → HasMadeNames p → p.allowed < 2 ^ 64 → HasInputsFirst p n → HasInputsFirst (fused p) n }
-    ensures value { (p : PlanView) (n : ℕ) (env : Elements) (idx : List ℕ) → Sound p → HasMadeNames p → p.allowed < 2 ^ 64 → HasInputsFirst p n
+    ensures value { (p : PlanView) (n : ℕ) (env : Elements) (idx : List ℕ) → Sound p → AllStored p.arrays → HasMadeNames p → p.allowed < 2 ^ 64 → HasInputsFirst p n
         → IsInside (grid_at p.arrays p.out).shape idx → plan_value (fused p) env (fused p).out idx ≡ plan_value p env p.out idx }
     ensures names { (p : PlanView) → Sound p → HasMadeNames p → p.allowed < 2 ^ 64 → HasOwnNames p.arrays → HasOwnNames (fused p).arrays }
     ensures name { (p : PlanView) → Sound p → HasMadeNames p → p.allowed < 2 ^ 64
@@ -112,14 +113,15 @@ pub fn fused_law()
 
 /// The same holds of the plan in which each map loads an array once.
 pub fn fused_loading_once_law()
-    ensures sound { (p : PlanView) → Sound p → HasMadeNames p → p.allowed < 2 ^ 64 → Sound (fused_loading_once p) }
+    ensures stored { (p : PlanView) → AllStored p.arrays → AllStored (fused_loading_once p).arrays }
+    ensures sound { (p : PlanView) → Sound p → AllStored p.arrays → HasMadeNames p → p.allowed < 2 ^ 64 → Sound (fused_loading_once p) }
     ensures fewer { (p : PlanView) → p.allowed < 2 ^ 64 → length (fused_loading_once p).ops ≤ length p.ops }
-    ensures needs { (p : PlanView) (k : ℕ) → Sound p → p.allowed < 2 ^ 64 → ((j : ℕ) → j < length p.ops → (operation_at p.ops j).projected ≤ p.allowed)
+    ensures needs { (p : PlanView) (k : ℕ) → Sound p → AllStored p.arrays → p.allowed < 2 ^ 64 → ((j : ℕ) → j < length p.ops → (operation_at p.ops j).projected ≤ p.allowed)
         → k < length (fused_loading_once p).ops → (operation_at (fused_loading_once p).ops k).projected ≤ p.allowed }
     ensures inputs { (p : PlanView) (n a : ℕ) → Sound p → HasMadeNames p → p.allowed < 2 ^ 64 → HasInputsFirst p n → a < n
         → array_at (fused_loading_once p).arrays a ≡ array_at p.arrays a }
     ensures first { (p : PlanView) (n : ℕ) → Sound p → HasMadeNames p → p.allowed < 2 ^ 64 → HasInputsFirst p n → HasInputsFirst (fused_loading_once p) n }
-    ensures value { (p : PlanView) (n : ℕ) (env : Elements) (idx : List ℕ) → Sound p → HasMadeNames p → p.allowed < 2 ^ 64 → HasInputsFirst p n
+    ensures value { (p : PlanView) (n : ℕ) (env : Elements) (idx : List ℕ) → Sound p → AllStored p.arrays → HasMadeNames p → p.allowed < 2 ^ 64 → HasInputsFirst p n
         → IsInside (grid_at p.arrays p.out).shape idx → plan_value (fused_loading_once p) env (fused_loading_once p).out idx ≡ plan_value p env p.out idx }
     ensures names { (p : PlanView) → Sound p → HasMadeNames p → p.allowed < 2 ^ 64 → HasOwnNames p.arrays → HasOwnNames (fused_loading_once p).arrays }
     ensures name { (p : PlanView) → Sound p → HasMadeNames p → p.allowed < 2 ^ 64

@@ -44,7 +44,7 @@ pub(crate) fn maker_of(ops: &[Planned], a: u32) -> usize
 }
 
 /// The number of the first operation that reads the array, and how many operations there are where none does.
-fn reader_of(ops: &[Planned], a: u32) -> usize
+pub(crate) fn reader_of(ops: &[Planned], a: u32) -> usize
     ensures number { result ≡ reader_of ops.now a }
     ensures within { result ≤ length ops.now }
 {

@@ -3,7 +3,7 @@ ghost use Rattle.std.specs.Prelude.{◌≡◌, ◌<◌, ◌≤◌, ◌^◌, ◌�
 ghost use Rattle.std.specs.List.{position_or_len};
 ghost use Rattle.cu_op.specs.Layout.{IsArray};
 ghost use Rattle.cu_op.specs.Operation.{reads_of};
-ghost use Rattle.cu_op.specs.Projection.{instruction_count, projection};
+ghost use Rattle.cu_op.specs.Projection.{instruction_count, own_projection};
 ghost use Rattle.cu_fuse.specs.Fused.{with_one_load};
 ghost use Rattle.cu_fuse.specs.Once.{at_places, distinct, first_like, first_load_of, loaded_by};
 ghost use Rattle.cu_fuse.specs.Once.{loading_once, loads, over_distinct, plain_map, stays, step_at};
@@ -12,7 +12,7 @@ ghost use Rattle.cu_fuse.specs.Runs.{CanRun, IsOverArrays};
 use crate::inputs::{distinct, number_at};
 use crate::setting::MergeSetting;
 use arrayvec::ArrayVec;
-use cu_op::{Instr, Kernel, Op, Planned, number_in, projection_of};
+use cu_op::{Instr, Kernel, Op, Planned, number_in, own_projection};
 
 /// An instruction over these inputs as one over each of them once.
 fn over_distinct(instr: Instr, ins: &[u32], once: &[u32]) -> Instr
@@ -185,7 +185,7 @@ fn load_once(setting: &MergeSetting, planned: &mut Planned)
     requires arrays { All IsArray setting.now.arrays }
     requires over { IsOverArrays setting.now.arrays planned.old.op }
     requires projected { planned.old.projected
-        ≡ projection setting.now.arrays setting.now.reserved planned.old.op }
+        ≡ own_projection setting.now.arrays setting.now.reserved planned.old.op }
     requires room { planned.old.projected < 2 ^ 64 }
     ensures { planned.new ≡ with_one_load setting.now planned.old }
 {
@@ -195,7 +195,7 @@ fn load_once(setting: &MergeSetting, planned: &mut Planned)
     let Some(op) = loaded_map(true, kernel.code.as_slice(), ins.as_slice(), *out) else {
         return;
     };
-    planned.projected = projection_of(&setting.arrays, setting.reserved, &op);
+    planned.projected = own_projection(&setting.arrays, setting.reserved, &op);
     planned.op = op;
 }
 

@@ -24,7 +24,7 @@ abbrev of_form : List ℕ → Form → Node
 of_form name form = record { name = name; form = form }
 
 abbrev in_groups : ℕ → Options
-in_groups g = record { allowed = 200; reserved = 0; split_every = g; retries = 2; workers = 1; backups = false }
+in_groups g = record { allowed = 200; reserved = 0; split_every = g; retries = 2; workers = 1; backups = false; fusion = 1 }
 
 abbrev input_of : List ℕ → NodeInfo → InputInfo
 input_of name i = record { name = name; layout = made_layout i }

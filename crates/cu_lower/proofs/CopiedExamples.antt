@@ -40,7 +40,7 @@ abbrev of_form : List ℕ → Form → Node
 of_form name form = record { name = name; form = form }
 
 abbrev with_memory : ℕ → Options
-with_memory allowed = record { allowed = allowed; reserved = 0; split_every = 4; retries = 2; workers = 1; backups = false }
+with_memory allowed = record { allowed = allowed; reserved = 0; split_every = 4; retries = 2; workers = 1; backups = false; fusion = 1 }
 
 abbrev x : Node
 x = of_form (codes "x") (Form.Input (codes "x"))
@@ -79,7 +79,7 @@ one_copy : (plan_of tight tight_infos tight_inputs (with_memory 20)).ops ≡ rec
 one_copy = refl
 
 one_made : (plan_of tight tight_infos tight_inputs (with_memory 20)).arrays
-    ≡ record { prefix = codes "x"; layout = made_layout fives; maker = None } ∷ record { prefix = codes "y"; layout = made_layout (info_of Int16 (7 ∷ []) (3 ∷ [])); maker = Some 0 } ∷ []
+    ≡ record { prefix = codes "x"; layout = made_layout fives; maker = None; inlined = false } ∷ record { prefix = codes "y"; layout = made_layout (info_of Int16 (7 ∷ []) (3 ∷ [])); maker = Some 0; inlined = false } ∷ []
 one_made = refl
 
 sixth : plan_value (plan_of tight tight_infos tight_inputs (with_memory 20)) indices 1 (6 ∷ []) ≡ Some (pos 6)
@@ -104,9 +104,9 @@ two_copies : (plan_of turned (tall ∷ wide ∷ []) (input_of (codes "x") tall �
 two_copies = refl
 
 two_made : (plan_of turned (tall ∷ wide ∷ []) (input_of (codes "x") tall ∷ []) (with_memory 1000000)).arrays
-    ≡ record { prefix = codes "x"; layout = made_layout tall; maker = None }
-    ∷ record { prefix = made_prefix_of (codes "y") 0; layout = made_layout (info_of Int32 (512 ∷ 512 ∷ []) (192 ∷ 192 ∷ [])); maker = Some 0 }
-    ∷ record { prefix = codes "y"; layout = made_layout wide; maker = Some 1 } ∷ []
+    ≡ record { prefix = codes "x"; layout = made_layout tall; maker = None; inlined = false }
+    ∷ record { prefix = made_prefix_of (codes "y") 0; layout = made_layout (info_of Int32 (512 ∷ 512 ∷ []) (192 ∷ 192 ∷ [])); maker = Some 0; inlined = false }
+    ∷ record { prefix = codes "y"; layout = made_layout wide; maker = Some 1; inlined = false } ∷ []
 two_made = refl
 
 -- ---- numbers in one chunk, and copies of one another into chunks of one
@@ -152,8 +152,8 @@ unfolding promotion
 copied_first = refl
 
 copied_arrays : (plan_of added added_infos added_inputs (with_memory 2000)).arrays
-    ≡ record { prefix = codes "x"; layout = made_layout fours; maker = None } ∷ record { prefix = codes "z"; layout = made_layout threes; maker = None }
-    ∷ record { prefix = made_prefix_of (codes "y") 0; layout = made_layout fours; maker = Some 0 } ∷ record { prefix = codes "y"; layout = made_layout fours; maker = Some 1 } ∷ []
+    ≡ record { prefix = codes "x"; layout = made_layout fours; maker = None; inlined = false } ∷ record { prefix = codes "z"; layout = made_layout threes; maker = None; inlined = false }
+    ∷ record { prefix = made_prefix_of (codes "y") 0; layout = made_layout fours; maker = Some 0; inlined = false } ∷ record { prefix = codes "y"; layout = made_layout fours; maker = Some 1; inlined = false } ∷ []
 copied_arrays = refl
 
 the_sum : plan_value (plan_of added added_infos added_inputs (with_memory 2000)) indices 3 (5 ∷ []) ≡ Some (pos 10)
@@ -224,7 +224,7 @@ the_copy : (plan_of kept (fours ∷ []) (input_of (codes "x") fours ∷ []) (wit
 the_copy = refl
 
 the_copied : (plan_of kept (fours ∷ []) (input_of (codes "x") fours ∷ []) (with_memory 32)).arrays
-    ≡ record { prefix = codes "x"; layout = made_layout fours; maker = None } ∷ record { prefix = codes "y"; layout = made_layout fours; maker = Some 0 } ∷ []
+    ≡ record { prefix = codes "x"; layout = made_layout fours; maker = None; inlined = false } ∷ record { prefix = codes "y"; layout = made_layout fours; maker = Some 0; inlined = false } ∷ []
 the_copied = refl
 
 the_copied_value : plan_value (plan_of kept (fours ∷ []) (input_of (codes "x") fours ∷ []) (with_memory 32)) indices 1 (5 ∷ []) ≡ Some (pos 5)

@@ -3,7 +3,7 @@ use Rattle.std.proofs.Common.{◌≡◌, ℕ, ◌≤◌, ◌+◌, ◌==◌, if�
 use Rattle.std.specs.Prelude.{nat_lt, slice_get}
 use Rattle.std.proofs.lemmas.Bool.{cases_Bool, ltb-false}
 use Rattle.std.proofs.lemmas.List.Sums.{sum_by-cons}
-use Rattle.cu_op.specs.Cells.{tasks_of}
+use Rattle.cu_op.specs.Cells.{regions_of}
 use Rattle.cu_op.specs.Sound.{made_chunks}
 use Rattle.cu_op.specs.declared.layout.ArrayInfo.{ArrayInfo}
 use Rattle.cu_op.specs.declared.operation.Planned.{Planned}
@@ -41,12 +41,12 @@ live_first e k n ns h = rw h refl
 dead_first : (e : Expression) (k : ℕ) (n : Node) (ns : List Node) → is_live e k ≡ false → live_behind e k (n ∷ ns) ≡ live_behind e (k + 1) ns
 dead_first e k n ns h = rw h refl
 
--- the tasks of steps are those that are counted of each
+-- the regions of steps are the tasks that are counted of each
 steps_sum : (arrays : List ArrayInfo) (reserved : ℕ) (ins : List ℕ) (first next : ℕ) (ss : List Step) → AreSteps arrays reserved ins first next ss
-    → sum_by (λ (s : Step). tasks_of arrays s.op) ss ≡ sum_by step_tasks ss
+    → sum_by (λ (s : Step). regions_of arrays s.op) ss ≡ sum_by step_tasks ss
 steps_sum arrays reserved ins first next [] are = refl
 steps_sum arrays reserved ins first next (s ∷ ss) are =
-    let a = sum_by-cons (λ (s : Step). tasks_of arrays s.op) s ss in
+    let a = sum_by-cons (λ (s : Step). regions_of arrays s.op) s ss in
     let b = sum_by-cons step_tasks s ss in
     let own = are.0.tasks in
     let rest = steps_sum arrays reserved ins first (next + length (made_infos s)) ss are.1 in
@@ -112,10 +112,10 @@ module _ (e : Expression) (infos : List NodeInfo) (inputs : List InputInfo) (opt
   next_given g n h i = growing.live_next e infos options g n.form h.live ∙ node_given e infos options g n.form (length g.places) refl i
 
   abbrev task_total : Grown → ℕ
-  task_total g = sum_by (λ (o : Planned). tasks_of grown.arrays o.op) g.ops
+  task_total g = sum_by (λ (o : Planned). regions_of grown.arrays o.op) g.ops
 
   made_tasks : (g : Grown) (n : Node) → IsNext g n → is_given e (length g.places) n.form ≡ false
-      → sum_by (λ (s : Step). tasks_of grown.arrays s.op) (growing.own_steps e infos options g n.form) ≡ node_tasks most options.split_every infos e.out (length g.places) n.form
+      → sum_by (λ (s : Step). regions_of grown.arrays s.op) (growing.own_steps e infos options g n.form) ≡ node_tasks most options.split_every infos e.out (length g.places) n.form
   made_tasks g n h other =
       let k = length g.places in
       let steps = all_steps e infos inputs options ok laws in
@@ -127,7 +127,7 @@ module _ (e : Expression) (infos : List NodeInfo) (inputs : List InputInfo) (opt
       let same = standing.own_same e infos inputs options ok.form steps g k n n.form h.at refl refl before in
       let sum = steps_sum grown.arrays options.reserved (source_places e grown.places n.form) (length g.arrays) (length g.arrays) (placed.steps_at e infos inputs options ok laws (length g.places) n.form (length g.arrays))
       (operations.node_steps e infos inputs options ok laws closed (length g.places) n.form s) in
-      ap (sum_by (λ (s : Step). tasks_of grown.arrays s.op)) same ∙ sum
+      ap (sum_by (λ (s : Step). regions_of grown.arrays s.op)) same ∙ sum
       ∙ (node_own e infos inputs options ok laws k n n.form h.at refl h.live other grown.places (length g.arrays) small).tasks
 
   more_tasks : (g : Grown) (n : Node) → IsNext g n → task_total (next g n.form) ≡ task_total g + node_tasks most options.split_every infos e.out (length g.places) n.form
@@ -158,8 +158,8 @@ module _ (e : Expression) (infos : List NodeInfo) (inputs : List InputInfo) (opt
             omega (arith, new, sum, own)
       ]
 
-  pub tasks_all : sum_by (λ (o : Planned). tasks_of grown.arrays o.op) grown.ops ≡ (plan_counts (max_mem options.allowed options.reserved) options.split_every e infos).tasks
-  tasks_all =
+  pub regions_all : sum_by (λ (o : Planned). regions_of grown.arrays o.op) grown.ops ≡ (plan_counts (max_mem options.allowed options.reserved) options.split_every e infos).tasks
+  regions_all =
       let steps = all_steps e infos inputs options ok laws in
       let sum = grows_by task_total (λ numbered. node_tasks most options.split_every infos e.out numbered.0 numbered.1.form) more_tasks
       (λ g n dead. ap task_total (growing.dead_next e infos options g n.form dead))

@@ -52,7 +52,7 @@ abbrev stored : List ℕ → Dtype → InputInfo
 stored name t = record { name = name; layout = made_layout (ten t) }
 
 abbrev options : Options
-options = record { allowed = 10000; reserved = 0; split_every = 4; retries = 2; workers = 1; backups = false }
+options = record { allowed = 10000; reserved = 0; split_every = 4; retries = 2; workers = 1; backups = false; fusion = 1 }
 
 abbrev b : Node
 b = of_form (codes "b") (Form.Input (codes "b"))
@@ -82,9 +82,9 @@ inputs = stored (codes "a") Int32 ∷ stored (codes "b") Int32 ∷ []
 
 -- one input array, then what is made besides the output, then the output
 the_arrays : (plan_of dead_between all_ten inputs options).arrays
-    ≡ record { prefix = codes "a"; layout = made_layout (ten Int32); maker = None }
-    ∷ record { prefix = codes "_cubed/y/0"; layout = made_layout (ten Int32); maker = Some 0 }
-    ∷ record { prefix = codes "y"; layout = made_layout (ten Int32); maker = Some 1 } ∷ []
+    ≡ record { prefix = codes "a"; layout = made_layout (ten Int32); maker = None; inlined = false }
+    ∷ record { prefix = codes "_cubed/y/0"; layout = made_layout (ten Int32); maker = Some 0; inlined = false }
+    ∷ record { prefix = codes "y"; layout = made_layout (ten Int32); maker = Some 1; inlined = false } ∷ []
 unfolding promotion digits
 the_arrays = refl
 

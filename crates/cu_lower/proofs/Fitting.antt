@@ -12,7 +12,7 @@ use Rattle.cu_op.specs.Arrays.{grid_at, type_at, chunk_room, grid_counts}
 use Rattle.cu_op.specs.KernelTypes.{KernelFits}
 use Rattle.cu_op.specs.Aligned.{IsAligned}
 use Rattle.cu_op.specs.Kind.Map.{MapFits}
-use Rattle.cu_op.specs.Projection.{projection}
+use Rattle.cu_op.specs.Projection.{own_projection}
 use Rattle.cu_op.proofs.Lists.{greatest_push}
 use Rattle.cu_op.specs.declared.kernel.Instr.{Instr}
 use Rattle.cu_op.specs.declared.layout.ArrayInfo.{ArrayInfo}
@@ -209,7 +209,7 @@ module _ (infos : List NodeInfo) (options : Options) (arrays : List ArrayInfo) (
               (subst (λ (ts : List Dtype). KernelFits (kernel_of op t (map (argument_of infos) args)) ts [] (info_at infos k).dtype) (sym types) (elementwise_map op (map (argument_of infos) args) t (info_at infos k) typed).kernel));
         }
 
-    projected : own_need options.reserved options.split_every infos k (Form.Elementwise op args) ≡ projection arrays options.reserved (map_of infos op args reads out)
+    projected : own_need options.reserved options.split_every infos k (Form.Elementwise op args) ≡ own_projection arrays options.reserved (map_of infos op args reads out)
     projected =
         let r = info_at infos k in
         let is = arrays_in infos args in
@@ -276,12 +276,12 @@ module _ (infos : List NodeInfo) (options : Options) (arrays : List ArrayInfo) (
               subst (λ (t : Dtype). InRange t x) dtype (own.numbers idx x into origin);
         }
 
-    view_projected : own_need options.reserved options.split_every infos k f ≡ projection arrays options.reserved (view_op infos f ins first)
+    view_projected : own_need options.reserved options.split_every infos k f ≡ own_projection arrays options.reserved (view_op infos f ins first)
     view_projected =
         let result = room_of_known arrays first (info_at infos k) view_own in
         let scratch = greatest_of arrays (info_at infos k) first ins (map chunk_bytes (arrays_in infos (args_of f))) view_own (rooms (args_of f) s.known) in
         view_needs options.reserved options.split_every infos k f viewed
-        ∙ (let whole : view_need options.reserved (info_at infos k) (arrays_in infos (args_of f)) ≡ projection arrays options.reserved (view_op infos f ins first) = omega (arith, result, scratch) in whole)
+        ∙ (let whole : view_need options.reserved (info_at infos k) (arrays_in infos (args_of f)) ≡ own_projection arrays options.reserved (view_op infos f ins first) = omega (arith, result, scratch) in whole)
 
     pub pull_steps : AreSteps arrays options.reserved ins first first (steps_of infos options k f ins first)
     pull_steps = subst (AreSteps arrays options.reserved ins first first) (sym (view_steps infos options k f ins first viewed)) (record { writes = refl; reads = given_all ins first first; fits = view_fits; need = view_projected; tasks = task_count first view_own }, tt)

@@ -98,9 +98,10 @@ module _ (e : Expression) (infos : List NodeInfo) (inputs : List InputInfo) (opt
   named recorded metadata differs = record {
     named = array_name e.store_as ok.form.store_as;
     texts = refl;
-    encodings = λ a below made. soundness.encoding_at e infos inputs options ok laws lives.closed a (soundness.with_maker e infos inputs options ok laws lives.closed a below made);
-    made = λ a below made.
-        let m = soundness.with_maker e infos inputs options ok laws lives.closed a below made in
+    encodings = λ a h. soundness.encoding_at e infos inputs options ok laws lives.closed a (soundness.with_maker e infos inputs options ok laws lives.closed a h.within h.made);
+    made = λ a h.
+        let below = h.within in
+        let m = soundness.with_maker e infos inputs options ok laws lives.closed a h.within h.made in
         let few = soundness.arrays_few e infos inputs options ok laws lives.closed in
         elim m.named [
           | inl own ↦ inl own.1

@@ -1,5 +1,5 @@
 -- Each operation of the plan of an expression fits its arrays, by the form of its node; the arrays that it makes are its own.
-use Rattle.std.proofs.Common.{◌≡◌, ◌≢◌, ℕ, ◌<◌, ◌≤◌, ◌+◌, ◌-◌, ◌*◌, ◌==◌, ◌&&◌, Bool, true, false, ℤ, List, [], ◌∷◌, All, Contains, Option, Some, length, get_or, refl, ap, sym, ◌∙◌, subst, inl, inr, arith}
+use Rattle.std.proofs.Common.{◌≡◌, ◌≢◌, ℕ, ◌<◌, ◌≤◌, ◌+◌, ◌-◌, ◌*◌, ◌^◌, ◌==◌, ◌&&◌, Bool, true, false, ℤ, List, [], ◌∷◌, All, Contains, Option, Some, length, get_or, refl, ap, sym, ◌∙◌, subst, inl, inr, arith}
 use Rattle.std.specs.Prelude.{slice_index, unwrap_or}
 use Rattle.std.proofs.lemmas.Bool.{cases_Bool}
 use Rattle.std.proofs.lemmas.List.Elements.{All-nil, All-cons}
@@ -8,8 +8,10 @@ use Rattle.cu_origin.specs.declared.pull.Pull.TheVariants as views
 use Rattle.cu_op.specs.Arrays.{array_at}
 use Rattle.cu_op.specs.Operation.{reads_of, IsReadable, IsMadeBy, IsBefore}
 use Rattle.cu_op.specs.PlanView.{operation_at}
+use Rattle.cu_op.specs.Projection.{own_projection}
 use Rattle.cu_op.specs.Sound.{IsOperation}
 use Rattle.cu_op.specs.declared.layout.ArrayInfo.{ArrayInfo}
+use Rattle.cu_op.specs.declared.operation.Planned.{Planned}
 use Rattle.cu_form.specs.Expression.{Expression}
 use Rattle.cu_form.specs.Form.{args_of}
 use Rattle.cu_form.specs.declared.args.Arg.{Arg}
@@ -349,20 +351,27 @@ module _ (e : Expression) (infos : List NodeInfo) (inputs : List InputInfo) (opt
       ∙ step_operation e w.step.last w.step.before grown w.step.step w.step.front
       ∙ ap (λ (k : ℕ). record { op = w.step.step.op; node = k; projected = w.step.step.need }) (step_number (standing.ops_of e infos inputs options ok.form (all_steps e infos inputs options ok laws)) j w)
 
-  pub operation_fits : (j : ℕ) → j < length grown.ops → IsOperation grown.arrays options.reserved j (operation_at grown.ops j)
+  pub operation_fits : (j : ℕ) → j < length grown.ops → IsOperation grown.arrays j (operation_at grown.ops j).op
   operation_fits j below =
       let w = stood j below in
       let fit = step_fits _ j w in
       let number = ops_number j w in
-      let need = step_allowed _ j w in
-      let allowed = ok.allowed in
-      subst (IsOperation grown.arrays options.reserved j) (sym (operation_is j w)) (record {
+      subst (λ (o : Planned). IsOperation grown.arrays j o.op) (sym (operation_is j w)) (record {
         reads = λ i d under. subst (λ (m : ℕ). IsReadable grown.arrays m (get_or (reads_of w.step.step.op) i d)) number (step_reads _ j w (get_or (reads_of w.step.step.op) i d) (fit.reads i d under));
         writes = subst (All (IsMadeBy grown.arrays j)) (sym fit.writes) (all_in_range (IsMadeBy grown.arrays j) (length w.step.before.arrays) (length (made_infos w.step.step)) (λ b low high.
             let long = step_long e w.step.last w.step.before w.step.step in
             let within = within_front (with_step e w.step.last w.step.before w.step.step).arrays w.step.front.arrays.0 grown.arrays w.step.front.arrays.1 in
             (omega (arith, long, within, high), (step_made _ j w b low high).made ∙ ap Some number)));
         fits = fit.fits;
-        projected = fit.need;
-        room = omega (arith, need, allowed);
       })
+
+  -- it needs what it needs alone
+  pub operation_needs : (j : ℕ) → j < length grown.ops
+      → ((operation_at grown.ops j).projected ≡ own_projection grown.arrays options.reserved (operation_at grown.ops j).op) × ((operation_at grown.ops j).projected < 2 ^ 64)
+  operation_needs j below =
+      let w = stood j below in
+      let fit = step_fits _ j w in
+      let need = step_allowed _ j w in
+      let allowed = ok.allowed in
+      subst (λ (o : Planned). (o.projected ≡ own_projection grown.arrays options.reserved o.op) × (o.projected < 2 ^ 64)) (sym (operation_is j w))
+      (fit.need, omega (arith, need, allowed))

@@ -35,7 +35,7 @@ abbrev stored_last : Node → Node → Expression
 stored_last x y = record { nodes = x ∷ y ∷ []; out = 1; store_as = codes "y" }
 
 abbrev options : Options
-options = record { allowed = 64; reserved = 0; split_every = 4; retries = 2; workers = 1; backups = false }
+options = record { allowed = 64; reserved = 0; split_every = 4; retries = 2; workers = 1; backups = false; fusion = 1 }
 
 abbrev a : Node
 a = of_form (codes "a") (Form.Input (codes "a"))
@@ -74,9 +74,9 @@ the_operations = refl
 
 -- only the last array has the output's name
 the_arrays : (plan_of summed sum_infos inputs options).arrays
-    ≡ record { prefix = codes "a"; layout = made_layout five; maker = None }
-    ∷ record { prefix = made_prefix_of (codes "y") 0; layout = made_layout (info_of Int64 (3 ∷ []) (1 ∷ [])); maker = Some 0 }
-    ∷ record { prefix = codes "y"; layout = made_layout one; maker = Some 1 } ∷ []
+    ≡ record { prefix = codes "a"; layout = made_layout five; maker = None; inlined = false }
+    ∷ record { prefix = made_prefix_of (codes "y") 0; layout = made_layout (info_of Int64 (3 ∷ []) (1 ∷ [])); maker = Some 0; inlined = false }
+    ∷ record { prefix = codes "y"; layout = made_layout one; maker = Some 1; inlined = false } ∷ []
 the_arrays = refl
 
 the_result : (plan_of summed sum_infos inputs options).out ≡ 2
@@ -91,7 +91,7 @@ unfolding wrapped
 the_sum_is_meant = refl
 
 -- merged in pairs it has two rounds
-in_pairs : (plan_of summed sum_infos inputs (record { allowed = 64; reserved = 0; split_every = 2; retries = 2; workers = 1; backups = false })).ops
+in_pairs : (plan_of summed sum_infos inputs (record { allowed = 64; reserved = 0; split_every = 2; retries = 2; workers = 1; backups = false; fusion = 1 })).ops
     ≡ record { op = Fold Sum (record { 0 = 63 }) 0 1; node = 1; projected = 24 } ∷ record { op = Merge Sum 0 2 1 2; node = 1; projected = 32 } ∷ record { op = Merge Sum 0 2 2 3; node = 1; projected = 32 } ∷ []
 in_pairs = refl
 
@@ -108,10 +108,10 @@ the_searches : (plan_of placed place_infos inputs options).ops
 the_searches = refl
 
 pair_arrays : (plan_of placed place_infos inputs options).arrays
-    ≡ record { prefix = codes "a"; layout = made_layout five; maker = None }
-    ∷ record { prefix = made_prefix_of (codes "y") 0; layout = made_layout (info_of Int32 (3 ∷ []) (1 ∷ [])); maker = Some 0 }
-    ∷ record { prefix = made_prefix_of (codes "y") 1; layout = made_layout (info_of Int64 (3 ∷ []) (1 ∷ [])); maker = Some 0 }
-    ∷ record { prefix = codes "y"; layout = made_layout (info_of Int64 (1 ∷ []) (1 ∷ [])); maker = Some 1 } ∷ []
+    ≡ record { prefix = codes "a"; layout = made_layout five; maker = None; inlined = false }
+    ∷ record { prefix = made_prefix_of (codes "y") 0; layout = made_layout (info_of Int32 (3 ∷ []) (1 ∷ [])); maker = Some 0; inlined = false }
+    ∷ record { prefix = made_prefix_of (codes "y") 1; layout = made_layout (info_of Int64 (3 ∷ []) (1 ∷ [])); maker = Some 0; inlined = false }
+    ∷ record { prefix = codes "y"; layout = made_layout (info_of Int64 (1 ∷ []) (1 ∷ [])); maker = Some 1; inlined = false } ∷ []
 pair_arrays = refl
 
 the_place : plan_value (plan_of placed place_infos inputs options) indices 3 (0 ∷ []) ≡ Some (pos 4)

@@ -1,8 +1,9 @@
 -- The plan of an expression is sound.
-use Rattle.std.proofs.Common.{◌≡◌, ◌≢◌, ℕ, zero, suc, ◌<◌, ◌≤◌, ◌+◌, ◌-◌, ◌*◌, ◌==◌, ◌&&◌, pos, true, List, [], ◌∷◌, All, Contains, Some, None, length, get_or, refl, ap, sym, ◌∙◌, subst, inl, inr, ◌⊎◌, arith}
+use Rattle.std.proofs.Common.{◌≡◌, ◌≢◌, ℕ, zero, suc, ◌<◌, ◌≤◌, ◌+◌, ◌-◌, ◌*◌, ◌^◌, ◌==◌, ◌&&◌, pos, Bool, true, false, List, [], ◌∷◌, All, Contains, Some, None, length, sum_by, get_or, refl, ap, sym, ◌∙◌, subst, inl, inr, ◌⊎◌, arith}
 use Rattle.std.specs.Prelude.{bytes_eq}
 use Rattle.std.proofs.lemmas.Bool.{cases_Bool, eqb-true, and_parts}
 use Rattle.std.proofs.lemmas.Int.{ints}
+use Rattle.std.proofs.lemmas.List.{get_or_default}
 use Rattle.std.proofs.lemmas.List.Elements.{All-head, All-tail}
 use Rattle.cu_num.specs.Dtype.{InRange}
 use Rattle.cu_num.specs.declared.layout.Encoding.TheVariants.{Plain}
@@ -13,15 +14,18 @@ use Rattle.cu_name.specs.Keys.{made_prefix_of}
 use Rattle.cu_name.proofs.Prefixes.{length-made_prefix_of}
 use Rattle.cu_shape.specs.Index.{product}
 use Rattle.cu_grid.specs.Grid.{RegularGrid, IsGrid}
-use Rattle.cu_op.specs.Arrays.{array_at, maker_at, grid_counts, array_chunk_count}
+use Rattle.cu_op.specs.Arrays.{array_at, is_inlined, maker_at, no_array, grid_counts, array_chunk_count, AllStored}
 use Rattle.cu_op.specs.Layout.{IsArray, IsLayout}
 use Rattle.cu_op.specs.Names.{HasOwnNames}
 use Rattle.cu_op.specs.Operation.{writes_of}
 use Rattle.cu_op.specs.PlanView.{operation_at}
+use Rattle.cu_op.specs.Projection.{projection}
 use Rattle.cu_op.specs.Sound.{Sound}
 use Rattle.cu_op.specs.declared.layout.ArrayInfo.{ArrayInfo}
 use Rattle.cu_op.specs.declared.layout.Layout.{Layout}
 use Rattle.cu_op.specs.declared.operation.Planned.{Planned}
+use Rattle.cu_op.specs.Cells.{tasks_of}
+use Rattle.cu_op.proofs.AllStored.{all_projection, all_tasks, stored_at}
 use Rattle.cu_op.proofs.KeyTexts.{keys_differ}
 use Rattle.cu_form.specs.Expression.{Expression}
 use Rattle.cu_node.specs.Info.{info_at}
@@ -152,6 +156,7 @@ module _ (e : Expression) (infos : List NodeInfo) (inputs : List InputInfo) (opt
     pub layout : (array_at grown.arrays a).layout ≡ made_layout info
     pub maker : ℕ
     pub made : maker_at grown.arrays a ≡ Some maker
+    pub stored : is_inlined grown.arrays a ≡ false
     pub named : ((a ≡ array_of_node grown e.out) × ((array_at grown.arrays a).prefix ≡ e.store_as)) ⊎ ((array_at grown.arrays a).prefix ≡ made_prefix_of e.store_as (a - given))
 
   pub made_array : (a : ℕ) → StoodArray a → IsMadeArray a
@@ -168,6 +173,7 @@ module _ (e : Expression) (infos : List NodeInfo) (inputs : List InputInfo) (opt
         layout = pair.layout;
         maker = length w.step.before.ops;
         made = pair.made;
+        stored = pair.stays;
         named = elim pair.named [
           | inl own ↦ inl (own_place a w own.0 own.1, own.2)
           | inr number ↦ inr (number ∙ ap (made_prefix_of e.store_as) (let z : length w.step.before.arrays - given + (a - length w.step.before.arrays) ≡ a - given = omega (arith, low, first) in z))
@@ -208,6 +214,17 @@ module _ (e : Expression) (infos : List NodeInfo) (inputs : List InputInfo) (opt
       get_or_same [] k d h = absurd (omega arith)
       get_or_same (x ∷ xs) zero d h = refl
       get_or_same (x ∷ xs) (suc k) d h = get_or_same xs k d (omega arith)
+
+  -- each is stored
+  stored_here : (a : ℕ) → a < length grown.arrays → is_inlined grown.arrays a ≡ false
+  stored_here a below =
+      elim (by_array a below) [
+        | inl l ↦ ap (λ (x : ArrayInfo). x.inlined) (input_at a l)
+        | inr w ↦ (made_array a w).stored
+      ]
+
+  pub all_stored : AllStored grown.arrays
+  all_stored a d below = subst (λ (x : ArrayInfo). x.inlined ≡ false) (get_or_default grown.arrays a no_array d below) (stored_here a below)
 
   -- an array with a maker is made
   pub with_maker : (a : ℕ) → a < length grown.arrays → maker_at grown.arrays a ≢ None → IsMadeArray a
@@ -250,8 +267,8 @@ module _ (e : Expression) (infos : List NodeInfo) (inputs : List InputInfo) (opt
 
   own_names : HasOwnNames grown.arrays
   own_names = record {
-    encodings = λ a below made. encoding_at a (with_maker a below made);
-    prefixes = λ a b la lb ma mb same. one_prefix a b la lb (with_maker a la ma) (with_maker b lb mb) same;
+    encodings = λ a h. encoding_at a (with_maker a h.within h.made);
+    prefixes = λ a b h k same. one_prefix a b h.within k.within (with_maker a h.within h.made) (with_maker b k.within k.made) same;
   }
 
   -- ---- the whole
@@ -283,12 +300,23 @@ module _ (e : Expression) (infos : List NodeInfo) (inputs : List InputInfo) (opt
       let n = get_or e.nodes e.out no_node in
       (placed.live_known e infos inputs options ok laws e.out n (slice_get-get_or e.nodes e.out no_node ok.form.out) closed.stored).within
 
+  -- since each array is stored, what an operation needs alone is all that it needs
+  needs_alone : (j : ℕ) → j < length grown.ops → (operation_at grown.ops j).projected ≡ projection (as_plan e options grown) j
+  needs_alone j below = (operations.operation_needs e infos inputs options ok laws closed j below).0 ∙ sym (all_projection (as_plan e options grown) j all_stored)
+
+  -- and each region is that of a task
+  pub tasks_all : sum_by (λ (o : Planned). tasks_of grown.arrays o.op) grown.ops ≡ (plan_counts (max_mem options.allowed options.reserved) options.split_every e infos).tasks
+  tasks_all = (λ i. sum_by (λ (o : Planned). all_tasks grown.arrays o.op all_stored i) grown.ops) ∙ counted.regions_all e infos inputs options ok laws closed
+
   pub sound : Sound (as_plan e options grown)
   sound =
       let ops = ops_few in
       let arrays = arrays_few in
       record {
         operations = operations.operation_fits e infos inputs options ok laws closed;
+        projections = needs_alone;
+        rooms = λ j below. subst (λ (n : ℕ). n < 2 ^ 64) (needs_alone j below) (operations.operation_needs e infos inputs options ok laws closed j below).1;
+        inlined = λ a below inner. absurd (not_both (stored_at grown.arrays a all_stored) inner);
         makers = makers;
         arrays = arrays_ok;
         keys = keys_differ grown.arrays arrays_ok own_names;
@@ -296,6 +324,9 @@ module _ (e : Expression) (infos : List NodeInfo) (inputs : List InputInfo) (opt
         array_count = omega (arith, arrays);
         operation_count = omega (arith, ops);
         input_chunks = λ a below none. (input_ok a (without_maker a below none)).1;
-        tasks = (let a = counted.tasks_all e infos inputs options ok laws closed in let c = (kept_limits (plan_counts (max_mem options.allowed options.reserved) options.split_every e infos) ok.counts).0 in omega (arith, a, c));
+        tasks = (let a = tasks_all in let c = (kept_limits (plan_counts (max_mem options.allowed options.reserved) options.split_every e infos) ok.counts).0 in omega (arith, a, c));
         cells = (let a = counted.cells_all e infos inputs options ok laws closed in let c = (kept_limits (plan_counts (max_mem options.allowed options.reserved) options.split_every e infos) ok.counts).1 in omega (arith, a, c));
       }
+    where
+      not_both : {b : Bool} → b ≡ false → b ≡ true → ⊥
+      not_both f t = cc

@@ -7,7 +7,7 @@ use Rattle.std.proofs.lemmas.List.Elements.{All-nil, All-cons, All-head, All-tai
 use Rattle.std.proofs.lemmas.List.Sums.{sum_by-append, sum_by-cons}
 use Rattle.cu_name.specs.Keys.{made_prefix_of}
 use Rattle.cu_op.specs.Arrays.{array_at}
-use Rattle.cu_op.specs.Cells.{tasks_of}
+use Rattle.cu_op.specs.Cells.{regions_of}
 use Rattle.cu_op.specs.Operation.{writes_of}
 use Rattle.cu_op.specs.PlanView.{operation_at, no_operation}
 use Rattle.cu_op.specs.Sound.{made_chunks}
@@ -60,6 +60,7 @@ pub record IsPairArray (e : Expression) (stored : Bool) (others maker : ℕ) (va
   pub kept : All HasGrid (with_values values i) → HasGrid info
   pub layout : a.layout ≡ made_layout info
   pub made : a.maker ≡ Some maker
+  pub stays : a.inlined ≡ false
   pub named : ((stored ≡ true) × (suc j ≡ length (with_values values i)) × (a.prefix ≡ e.store_as)) ⊎ (a.prefix ≡ made_prefix_of e.store_as (others + j))
 
 last_named : (e : Expression) (stored : Bool) (others : ℕ) → ((stored ≡ true) × ((if stored then e.store_as else made_prefix_of e.store_as others) ≡ e.store_as)) ⊎ ((if stored then e.store_as else made_prefix_of e.store_as others) ≡ made_prefix_of e.store_as others)
@@ -73,6 +74,7 @@ pair_array e stored others maker None i zero below = record {
   kept = λ all. All-head HasGrid i [] all;
   layout = refl;
   made = refl;
+  stays = refl;
   named = elim (last_named e stored others) [
     | inl own ↦ inl (own.0, refl, own.1)
     | inr number ↦ inr (number ∙ ap (made_prefix_of e.store_as) (let z : others ≡ others + 0 = omega arith in z))
@@ -84,6 +86,7 @@ pair_array e stored others maker (Some b) i zero below = record {
   kept = λ all. All-head HasGrid b (i ∷ []) all;
   layout = refl;
   made = refl;
+  stays = refl;
   named = inr (ap (made_prefix_of e.store_as) (let z : others ≡ others + 0 = omega arith in z));
 }
 pair_array e stored others maker (Some b) i (suc zero) below = record {
@@ -91,6 +94,7 @@ pair_array e stored others maker (Some b) i (suc zero) below = record {
   kept = λ all. All-head HasGrid i [] (All-tail HasGrid b (i ∷ []) all);
   layout = refl;
   made = refl;
+  stays = refl;
   named = elim (last_named e stored (others + 1)) [
     | inl own ↦ inl (own.0, refl, own.1)
     | inr number ↦ inr number
@@ -194,14 +198,14 @@ module _ (e : Expression) where
 
   -- ---- sums
 
-  pub steps_tasks : (arrays : List ArrayInfo) (g : Grown) (ss : List Step) → sum_by (λ (o : Planned). tasks_of arrays o.op) (with_steps e g ss).ops ≡ sum_by (λ (o : Planned). tasks_of arrays o.op) g.ops + sum_by (λ (s : Step). tasks_of arrays s.op) ss
+  pub steps_tasks : (arrays : List ArrayInfo) (g : Grown) (ss : List Step) → sum_by (λ (o : Planned). regions_of arrays o.op) (with_steps e g ss).ops ≡ sum_by (λ (o : Planned). regions_of arrays o.op) g.ops + sum_by (λ (s : Step). regions_of arrays s.op) ss
   steps_tasks arrays g [] = omega arith
   steps_tasks arrays g (s ∷ ss) =
       let o : Planned = record { op = s.op; node = length g.places; projected = s.need } in
-      let one = sum_by-append (λ (o : Planned). tasks_of arrays o.op) g.ops (o ∷ []) in
-      let first = sum_by-cons (λ (o : Planned). tasks_of arrays o.op) (record { op = s.op; node = length g.places; projected = s.need }) [] in
+      let one = sum_by-append (λ (o : Planned). regions_of arrays o.op) g.ops (o ∷ []) in
+      let first = sum_by-cons (λ (o : Planned). regions_of arrays o.op) (record { op = s.op; node = length g.places; projected = s.need }) [] in
       let rest = steps_tasks arrays (with_step e (is_none ss) g s) ss in
-      let own = sum_by-cons (λ (s : Step). tasks_of arrays s.op) s ss in
+      let own = sum_by-cons (λ (s : Step). regions_of arrays s.op) s ss in
       omega (arith, one, first, rest, own)
 
   pub steps_cells : (g : Grown) (ss : List Step) → sum_by made_chunks (with_steps e g ss).arrays ≡ sum_by made_chunks g.arrays + sum_by chunk_count (all_made ss)

@@ -36,7 +36,7 @@ abbrev stored_last : Node → Node → Expression
 stored_last x y = record { nodes = x ∷ y ∷ []; out = 1; store_as = codes "y" }
 
 abbrev options : Options
-options = record { allowed = 64; reserved = 0; split_every = 4; retries = 2; workers = 1; backups = false }
+options = record { allowed = 64; reserved = 0; split_every = 4; retries = 2; workers = 1; backups = false; fusion = 1 }
 
 abbrev stored : List ℕ → NodeInfo → InputInfo
 stored name i = record { name = name; layout = made_layout i }
@@ -79,7 +79,7 @@ unfolding slice_run
 the_operation = refl
 
 the_arrays : (plan_of backward backward_infos inputs options).arrays
-    ≡ record { prefix = codes "a"; layout = made_layout five; maker = None } ∷ record { prefix = codes "y"; layout = made_layout three; maker = Some 0 } ∷ []
+    ≡ record { prefix = codes "a"; layout = made_layout five; maker = None; inlined = false } ∷ record { prefix = codes "y"; layout = made_layout three; maker = Some 0; inlined = false } ∷ []
 the_arrays = refl
 
 the_value : plan_value (plan_of backward backward_infos inputs options) indices 1 (1 ∷ []) ≡ Some (pos 2)

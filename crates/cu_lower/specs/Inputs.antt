@@ -1,5 +1,5 @@
 -- The input arrays of a plan: one for each name that a live input node uses (this project's own rule).
-use Rattle.std.specs.Prelude.{ℕ, ◌+◌, Bool, List, [], ◌∷◌, ◌++◌, map, None, bytes_eq, if◌then◌else◌}
+use Rattle.std.specs.Prelude.{ℕ, ◌+◌, Bool, false, List, [], ◌∷◌, ◌++◌, map, None, bytes_eq, if◌then◌else◌}
 use Rattle.std.specs.List.{list_any, position_or_len}
 use Rattle.cu_op.specs.declared.layout.ArrayInfo.{ArrayInfo}
 use Rattle.cu_form.specs.Expression.{Expression}
@@ -10,7 +10,7 @@ use Rattle.cu_need.specs.Live.{is_live}
 use Rattle.cu_expr.specs.Inputs.{layout_named}
 
 abbrev pub input_array : List InputInfo → List ℕ → ArrayInfo
-input_array inputs name = record { prefix = name; layout = layout_named inputs name; maker = None }
+input_array inputs name = record { prefix = name; layout = layout_named inputs name; maker = None; inlined = false }
 
 -- the names with that of an input node, which is added behind them where it isn't among them
 abbrev pub with_name : List (List ℕ) → Form → List (List ℕ)

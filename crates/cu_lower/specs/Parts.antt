@@ -73,7 +73,7 @@ made_layout i = record { dtype = i.dtype; grid = record { shape = i.dims; chunk 
 -- output
 abbrev pub made_array : Expression → NodeInfo → Test → ℕ → ℕ → ArrayInfo
 made_array e i stored others maker =
-    record { prefix = if stored then e.store_as else made_prefix_of e.store_as others; layout = made_layout i; maker = Some maker }
+    record { prefix = if stored then e.store_as else made_prefix_of e.store_as others; layout = made_layout i; maker = Some maker; inlined = false }
 
 -- the one or two arrays that a step writes, values before places; the last of them may be the stored node's own
 abbrev pub pair_arrays : Expression → Test → ℕ → ℕ → Option NodeInfo → NodeInfo → List ArrayInfo

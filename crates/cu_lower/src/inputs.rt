@@ -52,6 +52,7 @@ fn input_array(inputs: &[InputInfo], name: &IdText) -> ArrayInfo
         prefix: key_of_name(name),
         layout: layout_named(inputs, name),
         maker: None,
+        inlined: false,
     }
 }
 

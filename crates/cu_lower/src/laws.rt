@@ -2,7 +2,7 @@
 
 ghost use Rattle.std.specs.Prelude.{◌≡◌, ◌<◌, ℕ, ℤ, List, None, Some, true, length};
 ghost use Rattle.cu_shape.specs.Index.{IsInside};
-ghost use Rattle.cu_op.specs.Arrays.{array_at, maker_at};
+ghost use Rattle.cu_op.specs.Arrays.{array_at, maker_at, AllStored};
 ghost use Rattle.cu_op.specs.PlanView.{operation_at};
 ghost use Rattle.cu_op.specs.Sound.{Sound};
 ghost use Rattle.cu_op.specs.Elements.{Elements};
@@ -29,7 +29,7 @@ use cu_lower_view::pull_law;
 use cu_need::live_law;
 use cu_op::range_law;
 
-/// The plan of an expression that can be lowered is sound. Each of its operations belongs to a live node and needs at most what is
+/// The plan of an expression that can be lowered is sound, and each of its arrays is stored. Each of its operations belongs to a live node and needs at most what is
 /// allowed. A copy belongs to a node that has copies; any other operation needs at most what the node does besides them, and one of the
 /// node's needs as much: so that need of a live node that is neither a rechunk nor an input is the greatest of its operations but the
 /// copies. The tasks of the plan and the
@@ -37,6 +37,8 @@ use cu_op::range_law;
 /// those of a plan with a name.
 pub fn plan_law()
     ensures sound { (e : Expression) (infos : List NodeInfo) (inputs : List InputInfo) (options : Options) → IsLowerable e infos inputs options → Sound (plan_of e infos inputs options) }
+    ensures stored { (e : Expression) (infos : List NodeInfo) (inputs : List InputInfo) (options : Options) → IsLowerable e infos inputs options
+        → AllStored (plan_of e infos inputs options).arrays }
     ensures needs { (e : Expression) (infos : List NodeInfo) (inputs : List InputInfo) (options : Options) (j : ℕ) → IsLowerable e infos inputs options
         → j < length (plan_of e infos inputs options).ops → IsOfNode e infos options (operation_at (plan_of e infos inputs options).ops j) }
     ensures counts { (e : Expression) (infos : List NodeInfo) (inputs : List InputInfo) (options : Options) → IsLowerable e infos inputs options

@@ -13,4 +13,8 @@ pub struct Options {
     pub workers: u32,
     /// Whether an idle worker may run a second copy of a task that runs.
     pub backups: bool,
+    /// What is computed in one task. With 1 maps that follow one another are. With 2 each map also
+    /// loads an array once, copies that follow one another are joined, and an array that can be made
+    /// where it is read isn't stored.
+    pub fusion: u32,
 }

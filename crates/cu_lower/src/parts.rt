@@ -227,5 +227,6 @@ pub(crate) fn made_array(
         prefix,
         layout: made_layout(info),
         maker: Some(maker),
+        inlined: false,
     }
 }

@@ -4,6 +4,7 @@ ghost use Rattle.std.specs.Prelude.{◌≡◌, ◌≤◌, ◌<◌, ◌+◌, ◌^
 ghost use Rattle.std.specs.List.{position_or_len};
 ghost use Rattle.cu_grid.specs.Grid.{IsGrid};
 ghost use Rattle.cu_node.specs.Info.{IsInfo, info_at};
+ghost use Rattle.cu_op.specs.Arrays.{AllStored};
 ghost use Rattle.cu_op.specs.Sound.{Sound};
 ghost use Rattle.cu_need.specs.Live.{is_live};
 ghost use Rattle.cu_lower.specs.Inputs.{input_names};
@@ -305,6 +306,7 @@ fn grow(
 /// and one for each round in which partial results are merged. Operands of a function or of a product that have other chunks than are
 /// wanted of them are copied before; a rechunk is a copy, and so is an input that is itself stored: one, or two by way of an array between.
 /// The stored node's own array has the output's name as prefix, each other one `_cubed/NAME/K`, where K counts the made arrays from 0.
+/// Each array is stored.
 pub fn lower(
     alloc: Global,
     expr: &Expr,
@@ -315,6 +317,7 @@ pub fn lower(
     requires { IsLowerable expr.now infos.now inputs.now options.now }
     ensures plan { IfOk result (λ plan. plan ≡ plan_of expr.now infos.now inputs.now options.now) }
     ensures sound { IfOk result Sound }
+    ensures stored { IfOk result (λ plan. AllStored plan.arrays) }
 {
     plan_law();
     pull_law();

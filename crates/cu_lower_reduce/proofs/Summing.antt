@@ -6,7 +6,7 @@ use Rattle.cu_grid.specs.Grid.{RegularGrid}
 use Rattle.cu_op.specs.Along.{CarriesFor, carried_reads}
 use Rattle.cu_op.specs.Arrays.{grid_at}
 use Rattle.cu_op.specs.Operation.{Fits}
-use Rattle.cu_op.specs.Projection.{projection}
+use Rattle.cu_op.specs.Projection.{own_projection}
 use Rattle.cu_op.specs.Partial.{partial_grid, merge_groups, place_groups, chunk_groups, IsSqueezed}
 use Rattle.cu_op.specs.declared.layout.ArrayInfo.{ArrayInfo}
 use Rattle.cu_op.specs.declared.operation.Op.TheVariants.{Carry, Scan}
@@ -150,7 +150,7 @@ carry_bytes : (r g b : ℕ) → r + b + (g + 1 + 1) * b ≡ r + b + (g + 1) * b 
 carry_bytes r g b = omega arith
 
 carry_needs : (arrays : List ArrayInfo) (s : Setting) (x : Cumulative) (source out : ℕ) (i : NodeInfo) (above : Option ℕ) → HasInfo arrays source i → HasInfo arrays out i → IfSome above (IsAboveSums arrays s x source i)
-    → (carried_step s x.axis source i above out).need ≡ projection arrays s.reserved (Carry x.axis s.split_every source above out)
+    → (carried_step s x.axis source i above out).need ≡ own_projection arrays s.reserved (Carry x.axis s.split_every source above out)
 carry_needs arrays s x source out i None f o a =
     let e = carry_bytes s.reserved s.split_every (chunk_bytes i) in
     rw (room_of arrays source i f, room_of arrays out i o) (omega (arith, e))

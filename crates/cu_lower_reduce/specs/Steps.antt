@@ -6,9 +6,9 @@ use Rattle.cu_shape.specs.Counts.{counts_of}
 use Rattle.cu_shape.specs.Index.{product}
 use Rattle.cu_grid.specs.Grid.{RegularGrid}
 use Rattle.cu_op.specs.Arrays.{grid_at, type_at}
-use Rattle.cu_op.specs.Cells.{tasks_of}
+use Rattle.cu_op.specs.Cells.{regions_of}
 use Rattle.cu_op.specs.Operation.{reads_of, writes_of, Fits}
-use Rattle.cu_op.specs.Projection.{projection}
+use Rattle.cu_op.specs.Projection.{own_projection}
 use Rattle.cu_op.specs.Elements.{Elements}
 use Rattle.cu_op.specs.Value.{rule}
 use Rattle.cu_op.specs.declared.layout.ArrayInfo.{ArrayInfo}
@@ -67,13 +67,13 @@ abbrev pub IsGiven : List ℕ → ℕ → ℕ → ℕ → Type 0
 IsGiven given first next a = Contains given a ⊎ ((first ≤ a) × (a < next))
 
 -- A step whose first array has number `next`. It writes just its arrays, reads the node's arguments and what earlier steps make, fits, needs
--- its projection, and has as many tasks as are counted of it.
+-- its own projection, and its tasks go over as many regions as are counted of it.
 pub record IsStep (arrays : List ArrayInfo) (reserved : ℕ) (given : List ℕ) (first next : ℕ) (s : Step) : Type 0 where
   pub writes : writes_of s.op ≡ range_with_len next (length (made_infos s))
   pub reads : All (IsGiven given first next) (reads_of s.op)
   pub fits : Fits arrays s.op
-  pub need : s.need ≡ projection arrays reserved s.op
-  pub tasks : tasks_of arrays s.op ≡ step_tasks s
+  pub need : s.need ≡ own_projection arrays reserved s.op
+  pub tasks : regions_of arrays s.op ≡ step_tasks s
 
 -- each step, one after another
 abbrev pub AreSteps : List ArrayInfo → ℕ → List ℕ → ℕ → ℕ → List Step → Type 0

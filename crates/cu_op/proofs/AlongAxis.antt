@@ -241,6 +241,14 @@ pub carried_walked : (w : Walk) (carry : Option ℕ) (axis s : ℕ) (lo hi : Lis
 carried_walked w None axis s lo hi = refl
 carried_walked w (Some a) axis s lo hi = refl
 
+-- a walk over another array than what is carried in
+pub carried_first : (x : Walk) (carry : Option ℕ) (axis s : ℕ) (lo hi : List ℕ) (w : Walk) → ((a : ℕ) → carry ≡ Some a → w.array ≢ a) → Contains (x ∷ carried_walks carry axis s lo hi) w → x ≡ w
+carried_first x None axis s lo hi w other (zero, l, e) = e
+carried_first x None axis s lo hi w other (suc k, l, e) = absurd (omega arith)
+carried_first x (Some a) axis s lo hi w other (zero, l, e) = e
+carried_first x (Some a) axis s lo hi w other (suc zero, l, e) = absurd (other a refl (ap (λ (v : Walk). v.array) (sym e)))
+carried_first x (Some a) axis s lo hi w other (suc (suc k), l, e) = absurd (omega arith)
+
 -- what is carried in depends on that array alone
 pub carried_alike : (carry : Option ℕ) (at other : Elements) (axis q : ℕ) (idx : List ℕ) → ((a : ℕ) → carry ≡ Some a → at a (set idx axis q) ≡ other a (set idx axis q))
     → carried (option_map (λ (b : Array). line_through b axis idx) (carried_array at carry)) q ≡ carried (option_map (λ (b : Array). line_through b axis idx) (carried_array other carry)) q

@@ -1,4 +1,5 @@
 -- Chunks of a plan's arrays: how many there are, and lists of them.
+use Rattle.cu_op.proofs.Members.{bool_cases}
 use Rattle.std.proofs.Common.{◌≡◌, ◌≢◌, ◌⊎◌, inl, inr, ℕ, zero, suc, ◌<◌, ◌≤◌, ◌*◌, List, [], ◌∷◌, length, map, All, Contains, Option, None, Some, refl, ap, ◌∙◌, arith}
 use Rattle.std.proofs.lemmas.List.{get_or-map, length-map}
 use Rattle.std.proofs.Math.Nat.{le-mul_of_pos_right}
@@ -7,7 +8,7 @@ use Rattle.std.proofs.lemmas.List.Sums.{get_or-le-sum_by}
 use Rattle.cu_shape.specs.Index.{product, IsInside}
 use Rattle.cu_shape.proofs.Places.{inside-positive}
 use Rattle.cu_op.specs.declared.cells.Cell.{Cell}
-use Rattle.cu_op.specs.Arrays.{array_at, grid_at, maker_at, grid_counts, array_chunk_count, no_array}
+use Rattle.cu_op.specs.Arrays.{array_at, grid_at, maker_at, grid_counts, array_chunk_count, no_array, is_inlined}
 use Rattle.cu_op.specs.PlanView.{PlanView}
 use Rattle.cu_op.specs.Sound.{Sound, made_chunks, cells_by}
 
@@ -42,13 +43,17 @@ counted (Some k) chunks h = refl
 
 pub chunks_few : (p : PlanView) (a : ℕ) → Sound p → a < length p.arrays → array_chunk_count (array_at p.arrays a) ≤ 262144
 chunks_few p a s h =
-    elim (input_or_made (maker_at p.arrays a)) [
-      | inl none ↦ let e = s.input_chunks a h none in omega (arith, e)
-      | inr made ↦
-          let one = get_or-le-sum_by made_chunks p.arrays a no_array h in
-          let e = counted (maker_at p.arrays a) (array_chunk_count (array_at p.arrays a)) made in
-          let all = s.cells in
-          omega (arith, one, e, all)
+    elim (bool_cases (is_inlined p.arrays a)) [
+      | inl inner ↦ let e = (s.inlined a h inner).chunks in omega (arith, e)
+      | inr stored ↦ elim (input_or_made (maker_at p.arrays a)) [
+        | inl none ↦ let e = s.input_chunks a h none in omega (arith, e)
+        | inr made ↦
+            let one = get_or-le-sum_by made_chunks p.arrays a no_array h in
+            let own : made_chunks (array_at p.arrays a) ≡ cells_by (maker_at p.arrays a) (array_chunk_count (array_at p.arrays a)) = rw stored refl in
+            let e = counted (maker_at p.arrays a) (array_chunk_count (array_at p.arrays a)) made in
+            let all = s.cells in
+            omega (arith, one, own, e, all)
+      ]
     ]
   where
     input_or_made : (m : Option ℕ) → (m ≡ None) ⊎ (m ≢ None)

@@ -1,5 +1,5 @@
 -- The definitions on worked examples: two int32 arrays of six elements in chunks of four, and their sum.
-use Rattle.std.proofs.Common.{◌≡◌, ℕ, zero, suc, ◌+◌, ◌*◌, List, [], ◌∷◌, Option, Some, None, refl, codes, pos, negsuc}
+use Rattle.std.proofs.Common.{◌≡◌, ℕ, zero, suc, ◌+◌, ◌*◌, List, [], ◌∷◌, Option, Some, None, refl, codes, pos, negsuc, false}
 use Rattle.cu_num.specs.declared.types.Dtype.TheVariants.{Int32}
 use Rattle.cu_num.specs.declared.functions.Fn2.TheVariants.{Add}
 use Rattle.cu_num.specs.declared.layout.Encoding.TheVariants.{Plain}
@@ -16,7 +16,7 @@ use Rattle.cu_op.specs.Cells.{tasks_of}
 use Rattle.cu_op.specs.Walks.{written_chunks, read_chunks}
 use Rattle.cu_op.specs.Kernel.{kernel_value}
 use Rattle.cu_op.specs.PlanView.{PlanView}
-use Rattle.cu_op.specs.Projection.{projection}
+use Rattle.cu_op.specs.Projection.{own_projection}
 use Rattle.cu_op.specs.Elements.{Elements}
 use Rattle.cu_op.specs.Value.{plan_value}
 
@@ -25,6 +25,7 @@ array shape chunk made = record {
   prefix = codes "a";
   layout = record { dtype = Int32; grid = record { shape = shape; chunk = chunk }; encoding = Plain Slash; endian = Little; fill = pos 0 };
   maker = made;
+  inlined = false;
 }
 
 unfoldable add : List ℕ → ℕ → Op
@@ -34,7 +35,7 @@ unfoldable two_chunks : List ArrayInfo
 two_chunks = array (6 ∷ []) (4 ∷ []) None ∷ array (6 ∷ []) (4 ∷ []) None ∷ array (6 ∷ []) (4 ∷ []) (Some 0) ∷ []
 
 -- scratch 16, inputs 32, output 16, three instructions 1536
-room : projection two_chunks 0 (add (0 ∷ 1 ∷ []) 2) ≡ 1600
+room : own_projection two_chunks 0 (add (0 ∷ 1 ∷ []) 2) ≡ 1600
 unfolding two_chunks add array
 room = refl
 
@@ -51,7 +52,7 @@ unfolding two_chunks add array
 read = refl
 
 -- an input that stands twice counts twice in the room, and its chunk is read once
-twice : projection two_chunks 0 (add (1 ∷ 1 ∷ []) 2) ≡ 1600
+twice : own_projection two_chunks 0 (add (1 ∷ 1 ∷ []) 2) ≡ 1600
 unfolding two_chunks add array
 twice = refl
 
@@ -91,7 +92,7 @@ joined = array (6 ∷ []) (4 ∷ []) None ∷ array (6 ∷ []) (4 ∷ []) None �
 unfoldable join : Op
 join = Pull (Concat 0) (record { items = 0 ∷ 1 ∷ [] }) 2
 
-joined_room : projection joined 0 join ≡ 64
+joined_room : own_projection joined 0 join ≡ 64
 unfolding joined join array
 joined_room = refl
 
@@ -130,7 +131,7 @@ counted = array (6 ∷ []) (4 ∷ []) (Some 0) ∷ []
 unfoldable count : Op
 count = Pull (Arange (pos 10) (negsuc 2)) (record { items = [] }) 0
 
-counted_room : projection counted 0 count ≡ 32
+counted_room : own_projection counted 0 count ≡ 32
 unfolding counted count array
 counted_room = refl
 

@@ -17,7 +17,7 @@ use Rattle.cu_grid.proofs.Regions.{bounded, coordinate-length}
 use Rattle.cu_op.specs.declared.layout.ArrayInfo.{ArrayInfo}
 use Rattle.cu_op.specs.Arrays.{array_at, grid_at, no_array}
 use Rattle.cu_op.specs.Layout.{IsArray}
-use Rattle.cu_op.specs.Names.{HasOwnNames}
+use Rattle.cu_op.specs.Names.{HasOwnNames, HasCells}
 use Rattle.cu_op.specs.Sound.{ChunkKeysDiffer}
 
 -- a digit's code, which is below that of `c`
@@ -127,9 +127,11 @@ pub keys_differ : (arrays : List ArrayInfo) → All IsArray arrays → HasOwnNam
 keys_differ arrays ok own a b c d ca cb e =
     let ga = (ok a no_array ca.within).grid in
     let gb = (ok b no_array cb.within).grid in
-    let ea = own.encodings a ca.within ca.made in
-    let eb = own.encodings b cb.within cb.made in
+    let ha : HasCells arrays a = record { within = ca.within; made = ca.made; stored = ca.stored } in
+    let hb : HasCells arrays b = record { within = cb.within; made = cb.made; stored = cb.stored } in
+    let ea = own.encodings a ha in
+    let eb = own.encodings b hb in
     let plain : chunk_key_of (array_at arrays a).prefix (Plain Slash) c ≡ chunk_key_of (array_at arrays b).prefix (Plain Slash) d =
     ap (λ w. chunk_key_of (array_at arrays a).prefix w c) (sym ea) ∙ e ∙ ap (λ w. chunk_key_of (array_at arrays b).prefix w d) eb in
     let told = key_told (array_at arrays a).prefix (array_at arrays b).prefix c d (coordinates_fit (grid_at arrays a) c ga ca.coordinate) (coordinates_fit (grid_at arrays b) d gb cb.coordinate) plain in
-    (own.prefixes a b ca.within cb.within ca.made cb.made told.0, told.1)
+    (own.prefixes a b ha hb told.0, told.1)

@@ -18,20 +18,20 @@ use Rattle.cu_op.proofs.SameCells.{HaveSame}
 use Rattle.cu_op.proofs.Spans.{IsSpan}
 use Rattle.cu_op.proofs.WalkCells.{AreApart, AreDifferent}
 use Rattle.cu_op.proofs.WalksOf.{LiesIn}
-use Rattle.cu_op.specs.Arrays.{grid_at, type_at, HasLayoutOf}
+use Rattle.cu_op.specs.Arrays.{grid_at, type_at, HasLayoutOf, chunk_room}
 use Rattle.cu_op.specs.Kind.{Kind}
 use Rattle.cu_op.specs.Kinds.{kind_of}
 use Rattle.cu_op.specs.Layout.{IsArray}
 use Rattle.cu_op.specs.Schedule.{IsNested}
 use Rattle.cu_op.specs.Elements.{Elements}
-use Rattle.cu_op.specs.Chunks.{walk}
+use Rattle.cu_op.specs.Chunks.{walk, IsOneChunk}
 use Rattle.cu_op.specs.Walks.{IsWalkOver, cells_of_walks}
 use Rattle.cu_op.specs.declared.cells.Cell.{Cell}
 use Rattle.cu_op.specs.declared.layout.ArrayInfo.{ArrayInfo}
 use Rattle.cu_op.specs.declared.walks.Walk.{Walk}
 use Rattle.cu_shape.specs.Counts.{at_least_one}
 use Rattle.cu_shape.specs.Index.{IsInside, product}
-use Rattle.std.proofs.Common.{◌≡◌, ℕ, ◌<◌, List, length, All, Contains, Some, ℤ, map, ◌≤◌, ◌≢◌, ◌^◌, None, [], ◌∷◌}
+use Rattle.std.proofs.Common.{◌≡◌, ℕ, ◌<◌, List, length, All, Contains, Some, ℤ, map, ◌≤◌, ◌≢◌, ◌^◌, None, [], ◌∷◌, true}
 
 -- its arrays are among those of a plan, which stand in chunks, and it fits them
 pub record Stands (arrays : List ArrayInfo) (k : Kind) : Type 0 where
@@ -83,6 +83,15 @@ pub record Laws (k : Kind) : Type 0 where
   pub listed : (arrays : List ArrayInfo) (idx : List ℕ) (a : ℕ) (i : List ℕ) → k.reads_at arrays idx a i → Contains k.reads a
   -- the array that its tasks go over is one of those that it writes
   pub target : Contains k.writes k.target
+  -- an operation that writes one chunk in each task writes one array, chunk by chunk
+  pub one_written : k.one_chunk ≡ true → k.writes ≡ k.target ∷ []
+  pub one_grid : (arrays : List ArrayInfo) → k.one_chunk ≡ true → k.tasks arrays ≡ grid_at arrays k.target
+  -- and its result has the room of a chunk
+  pub one_room : (arrays : List ArrayInfo) → k.one_chunk ≡ true → k.output_room arrays ≡ chunk_room arrays k.target
+  -- of an array that it reads by the chunk each task reads one chunk
+  pub one_read : (arrays : List ArrayInfo) (d : List ℕ) (w : Walk) → Stands arrays k → IsCoordinate (k.tasks arrays) d
+      → Contains (k.walks arrays (chunk_lo (k.tasks arrays).chunk d) (chunk_hi (k.tasks arrays).shape (k.tasks arrays).chunk d)) w → k.by_chunk arrays w.array
+      → IsOneChunk (grid_at arrays w.array) w.region
   -- they go over a grid
   pub grid : (arrays : List ArrayInfo) → Stands arrays k → IsGrid (k.tasks arrays)
   -- each of whose chunks is made of whole chunks of what it writes

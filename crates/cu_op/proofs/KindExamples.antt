@@ -1,5 +1,5 @@
 -- The definitions of the kinds of operations on worked examples: reductions, searches for places, products, copies, and the input cells of tasks.
-use Rattle.std.proofs.Common.{◌≡◌, ℕ, ℤ, zero, suc, ◌+◌, ◌*◌, inl, inr, List, [], ◌∷◌, Option, Some, None, true, refl, codes, pos, arith, map}
+use Rattle.std.proofs.Common.{◌≡◌, ℕ, ℤ, zero, suc, ◌+◌, ◌*◌, inl, inr, List, [], ◌∷◌, Option, Some, None, true, refl, codes, pos, arith, map, false}
 use Rattle.cu_num.specs.declared.folds.FoldKind.TheVariants.{Sum, Max}
 use Rattle.cu_num.specs.declared.types.Dtype.{Dtype}
 use Rattle.cu_num.specs.declared.types.Dtype.TheVariants.{Int32, Int64}
@@ -15,20 +15,21 @@ use Rattle.cu_op.specs.Chunks.{cell, walk}
 use Rattle.cu_op.specs.Cells.{tasks_of}
 use Rattle.cu_op.specs.Nested.{IsNestedAlong}
 use Rattle.cu_op.specs.Partial.{partial_grid, chunk_groups}
-use Rattle.cu_op.specs.Projection.{projection}
+use Rattle.cu_op.specs.Projection.{own_projection}
 use Rattle.cu_op.specs.Elements.{Elements}
 use Rattle.cu_op.specs.Value.{values_after}
 use Rattle.cu_op.specs.Walks.{written_chunks, read_chunks, input_walks}
 use Rattle.cu_num.specs.declared.functions.Fn2.TheVariants.{Add}
 use Rattle.cu_origin.specs.declared.pull.Pull.TheVariants.{Concat}
 use Rattle.cu_op.specs.declared.kernel.Instr.TheVariants.{Load, Two}
-use Rattle.cu_op.specs.InputCells.{input_cells}
+use Rattle.cu_op.specs.InputCells.{own_cells}
 
 unfoldable array : Dtype → List ℕ → List ℕ → ArrayInfo
 array t shape chunk = record {
   prefix = codes "a";
   layout = record { dtype = t; grid = record { shape = shape; chunk = chunk }; encoding = Plain Slash; endian = Little; fill = pos 0 };
   maker = None;
+  inlined = false;
 }
 
 abbrev axes_of : ℕ → Axes
@@ -41,7 +42,7 @@ value_after ops arrays at a idx = values_after (map (λ op. record { op = op; no
 unfoldable empty : List ArrayInfo
 empty = array Int32 (0 ∷ []) (4 ∷ []) ∷ array Int64 [] [] ∷ []
 
-empty_room : projection empty 0 (Fold Sum (axes_of 1) 0 1) ≡ 40
+empty_room : own_projection empty 0 (Fold Sum (axes_of 1) 0 1) ≡ 40
 unfolding empty array
 empty_room = refl
 
@@ -71,7 +72,7 @@ fives zero (i ∷ is) = Some (pos (3 + 5 * i))
 fives a idx = None
 
 -- scratch 16, one source chunk 16, one result 4
-fold_room : projection six 0 (Fold Max (axes_of 1) 0 1) ≡ 36
+fold_room : own_projection six 0 (Fold Max (axes_of 1) 0 1) ≡ 36
 unfolding six array
 fold_room = refl
 
@@ -88,7 +89,7 @@ unfolding six array fives wrapped
 fold_value = refl
 
 -- scratch 4, four partial results also where there are two, one result 4
-merge_room : projection six 0 (Merge Max 0 4 1 2) ≡ 24
+merge_room : own_projection six 0 (Merge Max 0 4 1 2) ≡ 24
 unfolding six array
 merge_room = refl
 
@@ -127,16 +128,16 @@ merge_found = PairMerge true 0 2 1 2 (Some 3) 4
 abbrev merge_last : Op
 merge_last = PairMerge true 0 2 3 4 None 5
 
-find_room : projection five 0 find ≡ 28
+find_room : own_projection five 0 find ≡ 28
 unfolding five array
 find_room = refl
 
-merge_found_room : projection five 0 merge_found ≡ 44
+merge_found_room : own_projection five 0 merge_found ≡ 44
 unfolding five array
 merge_found_room = refl
 
 -- the last stores no values and counts their chunk all the same
-merge_last_room : projection five 0 merge_last ≡ 44
+merge_last_room : own_projection five 0 merge_last ≡ 44
 unfolding five array
 merge_last_room = refl
 
@@ -174,11 +175,11 @@ to_middle = Copy (512 ∷ 192 ∷ []) 0 1
 abbrev to_target : Op
 to_target = Copy (192 ∷ 512 ∷ []) 1 2
 
-middle_room : projection square 0 to_middle ≡ 540672
+middle_room : own_projection square 0 to_middle ≡ 540672
 unfolding square array
 middle_room = refl
 
-target_room : projection square 0 to_target ≡ 540672
+target_room : own_projection square 0 to_target ≡ 540672
 unfolding square array
 target_room = refl
 
@@ -221,7 +222,7 @@ matrices (suc zero) (i ∷ j ∷ is) = Some (pos (10 * (i + 1)))
 matrices a idx = None
 
 -- scratch 48, operands 24 and 48, result 16
-product_room : projection whole_product 0 (Mul 0 1 2) ≡ 136
+product_room : own_projection whole_product 0 (Mul 0 1 2) ≡ 136
 unfolding whole_product array
 product_room = refl
 
@@ -258,7 +259,7 @@ counting zero (i ∷ j ∷ is) = Some (pos (3 * i + j + 1))
 counting (suc zero) (i ∷ is) = Some (pos 1)
 counting a idx = None
 
-vector_rooms : (projection vectors 0 (Mul 0 1 2) ≡ 48) × (projection vectors 0 (Merge Sum 1 4 2 3) ≡ 48)
+vector_rooms : (own_projection vectors 0 (Mul 0 1 2) ≡ 48) × (own_projection vectors 0 (Merge Sum 1 4 2 3) ≡ 48)
 unfolding vectors array
 vector_rooms = (refl, refl)
 
@@ -300,38 +301,38 @@ add ins out = Map (record { code = record { items = Load 0 ∷ Load 1 ∷ Two Ad
 unfoldable sums : List ArrayInfo
 sums = array Int32 (2 ∷ 3 ∷ []) (1 ∷ 2 ∷ []) ∷ array Int32 (3 ∷ []) (2 ∷ []) ∷ array Int32 (2 ∷ 1 ∷ []) (1 ∷ 1 ∷ []) ∷ array Int32 (2 ∷ 3 ∷ []) (1 ∷ 2 ∷ []) ∷ []
 
-twice : input_cells sums (add (0 ∷ 0 ∷ []) 3) 3 ≡ cell 0 (1 ∷ 1 ∷ []) ∷ cell 0 (1 ∷ 1 ∷ []) ∷ []
+twice : own_cells sums (add (0 ∷ 0 ∷ []) 3) 3 ≡ cell 0 (1 ∷ 1 ∷ []) ∷ cell 0 (1 ∷ 1 ∷ []) ∷ []
 unfolding sums array
 twice = refl
 
 -- an axis that the input lacks, and one on which it is stretched
-broadcast : input_cells sums (add (1 ∷ 2 ∷ []) 3) 3 ≡ cell 1 (1 ∷ []) ∷ cell 2 (1 ∷ 0 ∷ []) ∷ []
+broadcast : own_cells sums (add (1 ∷ 2 ∷ []) 3) 3 ≡ cell 1 (1 ∷ []) ∷ cell 2 (1 ∷ 0 ∷ []) ∷ []
 unfolding sums array
 broadcast = refl
 
 -- a view needs its sources whole
-joined : input_cells (array Int32 (3 ∷ []) (2 ∷ []) ∷ array Int32 (1 ∷ []) (2 ∷ []) ∷ array Int32 (4 ∷ []) (2 ∷ []) ∷ []) (Pull (Concat 0) (record { items = 0 ∷ 1 ∷ [] }) 2) 1
+joined : own_cells (array Int32 (3 ∷ []) (2 ∷ []) ∷ array Int32 (1 ∷ []) (2 ∷ []) ∷ array Int32 (4 ∷ []) (2 ∷ []) ∷ []) (Pull (Concat 0) (record { items = 0 ∷ 1 ∷ [] }) 2) 1
     ≡ cell 0 (0 ∷ []) ∷ cell 0 (1 ∷ []) ∷ cell 1 (0 ∷ []) ∷ []
 unfolding array
 joined = refl
 
 -- [512, 512] from chunks [512, 64] to [192, 192] in regions [512, 192]: the last region has 128 columns
-copied_cells : input_cells (array Int32 (512 ∷ 512 ∷ []) (512 ∷ 64 ∷ []) ∷ array Int32 (512 ∷ 512 ∷ []) (192 ∷ 192 ∷ []) ∷ []) (Copy (512 ∷ 192 ∷ []) 0 1) 2
+copied_cells : own_cells (array Int32 (512 ∷ 512 ∷ []) (512 ∷ 64 ∷ []) ∷ array Int32 (512 ∷ 512 ∷ []) (192 ∷ 192 ∷ []) ∷ []) (Copy (512 ∷ 192 ∷ []) 0 1) 2
     ≡ cell 0 (0 ∷ 6 ∷ []) ∷ cell 0 (0 ∷ 7 ∷ []) ∷ []
 unfolding array
 copied_cells = refl
 
 -- a fold to an array that lacks the reduced axis, and of a source without elements
-folded : input_cells (array Int32 (4 ∷ 3 ∷ []) (2 ∷ 3 ∷ []) ∷ array Int32 (4 ∷ []) (2 ∷ []) ∷ []) (Fold Sum (axes_of 2) 0 1) 1 ≡ cell 0 (1 ∷ 0 ∷ []) ∷ []
+folded : own_cells (array Int32 (4 ∷ 3 ∷ []) (2 ∷ 3 ∷ []) ∷ array Int32 (4 ∷ []) (2 ∷ []) ∷ []) (Fold Sum (axes_of 2) 0 1) 1 ≡ cell 0 (1 ∷ 0 ∷ []) ∷ []
 unfolding array
 folded = refl
 
-nothing_folded : input_cells (array Int32 (0 ∷ []) (4 ∷ []) ∷ array Int32 [] [] ∷ []) (Fold Sum (axes_of 1) 0 1) 0 ≡ []
+nothing_folded : own_cells (array Int32 (0 ∷ []) (4 ∷ []) ∷ array Int32 [] [] ∷ []) (Fold Sum (axes_of 1) 0 1) 0 ≡ []
 unfolding array
 nothing_folded = refl
 
 -- places sought in the whole array: the result has a partial for each chunk
-sought : input_cells (array Int32 (4 ∷ 3 ∷ []) (2 ∷ 2 ∷ []) ∷ array Int32 (2 ∷ 2 ∷ []) (1 ∷ 1 ∷ []) ∷ array Int32 (2 ∷ 2 ∷ []) (1 ∷ 1 ∷ []) ∷ []) (PairFold true None 0 (Some 1) 2) 2 ≡ cell 0 (1 ∷ 0 ∷ []) ∷ []
+sought : own_cells (array Int32 (4 ∷ 3 ∷ []) (2 ∷ 2 ∷ []) ∷ array Int32 (2 ∷ 2 ∷ []) (1 ∷ 1 ∷ []) ∷ array Int32 (2 ∷ 2 ∷ []) (1 ∷ 1 ∷ []) ∷ []) (PairFold true None 0 (Some 1) 2) 2 ≡ cell 0 (1 ∷ 0 ∷ []) ∷ []
 unfolding array
 sought = refl
 
@@ -339,30 +340,30 @@ sought = refl
 unfoldable seven : List ArrayInfo
 seven = array Int32 (7 ∷ 4 ∷ []) (1 ∷ 2 ∷ []) ∷ array Int32 (3 ∷ 4 ∷ []) (1 ∷ 2 ∷ []) ∷ array Int32 (7 ∷ 4 ∷ []) (1 ∷ 2 ∷ []) ∷ []
 
-merged : input_cells seven (Merge Max 0 3 0 1) 3 ≡ cell 0 (3 ∷ 1 ∷ []) ∷ cell 0 (4 ∷ 1 ∷ []) ∷ cell 0 (5 ∷ 1 ∷ []) ∷ []
+merged : own_cells seven (Merge Max 0 3 0 1) 3 ≡ cell 0 (3 ∷ 1 ∷ []) ∷ cell 0 (4 ∷ 1 ∷ []) ∷ cell 0 (5 ∷ 1 ∷ []) ∷ []
 unfolding seven array
 merged = refl
 
-last_merged : input_cells seven (PairMerge true 0 3 0 2 None 1) 4 ≡ cell 0 (6 ∷ 0 ∷ []) ∷ cell 2 (6 ∷ 0 ∷ []) ∷ []
+last_merged : own_cells seven (PairMerge true 0 3 0 2 None 1) 4 ≡ cell 0 (6 ∷ 0 ∷ []) ∷ cell 2 (6 ∷ 0 ∷ []) ∷ []
 unfolding seven array
 last_merged = refl
 
 -- the last merge, whose result lacks the merged axis
-wholly_merged : input_cells (array Int32 (2 ∷ 4 ∷ []) (1 ∷ 2 ∷ []) ∷ array Int32 (4 ∷ []) (2 ∷ []) ∷ []) (Merge Max 0 4 0 1) 1 ≡ cell 0 (0 ∷ 1 ∷ []) ∷ cell 0 (1 ∷ 1 ∷ []) ∷ []
+wholly_merged : own_cells (array Int32 (2 ∷ 4 ∷ []) (1 ∷ 2 ∷ []) ∷ array Int32 (4 ∷ []) (2 ∷ []) ∷ []) (Merge Max 0 4 0 1) 1 ≡ cell 0 (0 ∷ 1 ∷ []) ∷ cell 0 (1 ∷ 1 ∷ []) ∷ []
 unfolding array
 wholly_merged = refl
 
 -- [2, 3] by [3, 2] in parts of two inner places and one: the task of row 1 and the second part; a vector by itself; no inner place
-product : input_cells (array Int32 (2 ∷ 3 ∷ []) (1 ∷ 2 ∷ []) ∷ array Int32 (3 ∷ 2 ∷ []) (2 ∷ 2 ∷ []) ∷ array Int32 (2 ∷ 2 ∷ 2 ∷ []) (1 ∷ 2 ∷ 1 ∷ []) ∷ []) (Mul 0 1 2) 3
+product : own_cells (array Int32 (2 ∷ 3 ∷ []) (1 ∷ 2 ∷ []) ∷ array Int32 (3 ∷ 2 ∷ []) (2 ∷ 2 ∷ []) ∷ array Int32 (2 ∷ 2 ∷ 2 ∷ []) (1 ∷ 2 ∷ 1 ∷ []) ∷ []) (Mul 0 1 2) 3
     ≡ cell 0 (1 ∷ 1 ∷ []) ∷ cell 1 (1 ∷ 0 ∷ []) ∷ []
 unfolding array
 product = refl
 
-squared : input_cells (array Int32 (3 ∷ []) (3 ∷ []) ∷ array Int32 [] [] ∷ []) (Mul 0 0 1) 0 ≡ cell 0 (0 ∷ []) ∷ cell 0 (0 ∷ []) ∷ []
+squared : own_cells (array Int32 (3 ∷ []) (3 ∷ []) ∷ array Int32 [] [] ∷ []) (Mul 0 0 1) 0 ≡ cell 0 (0 ∷ []) ∷ cell 0 (0 ∷ []) ∷ []
 unfolding array
 squared = refl
 
-nothing_multiplied : input_cells (array Int32 (0 ∷ []) (3 ∷ []) ∷ array Int32 [] [] ∷ []) (Mul 0 0 1) 0 ≡ []
+nothing_multiplied : own_cells (array Int32 (0 ∷ []) (3 ∷ []) ∷ array Int32 [] [] ∷ []) (Mul 0 0 1) 0 ≡ []
 unfolding array
 nothing_multiplied = refl
 
@@ -381,7 +382,7 @@ abbrev summing : List Op
 summing =
     Fold Sum (axes_of 1) 0 1 ∷ Merge Sum 0 2 1 2 ∷ Merge Sum 0 2 2 3 ∷ Carry 0 2 3 None 4 ∷ Carry 0 2 2 (Some 4) 5 ∷ Carry 0 2 1 (Some 5) 6 ∷ Scan 0 0 (Some 6) 7 ∷ []
 
-running_rooms : map (projection running 0) summing ≡ 20 ∷ 32 ∷ 32 ∷ 40 ∷ 40 ∷ 40 ∷ 28 ∷ []
+running_rooms : map (own_projection running 0) summing ≡ 20 ∷ 32 ∷ 32 ∷ 40 ∷ 40 ∷ 40 ∷ 28 ∷ []
 unfolding running array
 running_rooms = refl
 
@@ -390,15 +391,15 @@ unfolding running array counted_up wrapped
 running_sums = refl
 
 -- the first place of a group has no sum before it there
-first_carried : input_cells running (Carry 0 2 1 (Some 5) 6) 2 ≡ cell 5 (1 ∷ []) ∷ []
+first_carried : own_cells running (Carry 0 2 1 (Some 5) 6) 2 ≡ cell 5 (1 ∷ []) ∷ []
 unfolding running array
 first_carried = refl
 
-next_carried : input_cells running (Carry 0 2 1 (Some 5) 6) 3 ≡ cell 1 (2 ∷ []) ∷ cell 5 (1 ∷ []) ∷ []
+next_carried : own_cells running (Carry 0 2 1 (Some 5) 6) 3 ≡ cell 1 (2 ∷ []) ∷ cell 5 (1 ∷ []) ∷ []
 unfolding running array
 next_carried = refl
 
-scanned : input_cells running (Scan 0 0 (Some 6) 7) 3 ≡ cell 0 (3 ∷ []) ∷ cell 6 (3 ∷ []) ∷ []
+scanned : own_cells running (Scan 0 0 (Some 6) 7) 3 ≡ cell 0 (3 ∷ []) ∷ cell 6 (3 ∷ []) ∷ []
 unfolding running array
 scanned = refl
 

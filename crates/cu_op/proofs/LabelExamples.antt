@@ -1,5 +1,5 @@
 -- Folds by labels on worked examples.
-use Rattle.std.proofs.Common.{◌≡◌, ℕ, zero, suc, ◌+◌, List, [], ◌∷◌, Option, Some, None, refl, codes, pos, map, ℤ}
+use Rattle.std.proofs.Common.{◌≡◌, ℕ, zero, suc, ◌+◌, List, [], ◌∷◌, Option, Some, None, refl, codes, pos, map, ℤ, false}
 use Rattle.cu_num.specs.declared.folds.FoldKind.TheVariants.{Sum, Min}
 use Rattle.cu_num.specs.declared.types.Dtype.{Dtype}
 use Rattle.cu_num.specs.declared.types.Dtype.TheVariants.{Int32, Int64}
@@ -13,8 +13,8 @@ use Rattle.cu_op.specs.declared.operation.Op.TheVariants.{GroupFold, Merge}
 use Rattle.cu_op.specs.Chunks.{cell, walk}
 use Rattle.cu_op.specs.Cells.{tasks_of}
 use Rattle.cu_op.specs.Elements.{Elements}
-use Rattle.cu_op.specs.InputCells.{input_cells}
-use Rattle.cu_op.specs.Projection.{projection}
+use Rattle.cu_op.specs.InputCells.{own_cells}
+use Rattle.cu_op.specs.Projection.{own_projection}
 use Rattle.cu_op.specs.Value.{values_after}
 use Rattle.cu_op.specs.Walks.{read_chunks, input_walks}
 
@@ -23,6 +23,7 @@ array t shape chunk = record {
   prefix = codes "a";
   layout = record { dtype = t; grid = record { shape = shape; chunk = chunk }; encoding = Plain Slash; endian = Little; fill = pos 0 };
   maker = None;
+  inlined = false;
 }
 
 abbrev values_of : List Op → List ArrayInfo → Elements → ℕ → List ℕ → List (Option ℤ)
@@ -62,11 +63,11 @@ unfolding labelled array with_labels wrapped
 group_least = refl
 
 -- scratch 24, two chunks of 8, one result of 24; and scratch 24, four partial results and one
-sum_rooms : map (projection (labelled Int64) 0) (sum_parts ∷ merge_sums ∷ []) ≡ 64 ∷ 144 ∷ []
+sum_rooms : map (own_projection (labelled Int64) 0) (sum_parts ∷ merge_sums ∷ []) ≡ 64 ∷ 144 ∷ []
 unfolding labelled array
 sum_rooms = refl
 
-least_rooms : map (projection (labelled Int32) 0) (least_parts ∷ merge_least ∷ []) ≡ 40 ∷ 72 ∷ []
+least_rooms : map (own_projection (labelled Int32) 0) (least_parts ∷ merge_least ∷ []) ≡ 40 ∷ 72 ∷ []
 unfolding labelled array
 least_rooms = refl
 
@@ -74,7 +75,7 @@ group_tasks : tasks_of (labelled Int64) sum_parts + tasks_of (labelled Int64) me
 unfolding labelled array
 group_tasks = refl
 
-part_cells : input_cells (labelled Int64) sum_parts 1 ≡ cell 0 (1 ∷ []) ∷ cell 1 (1 ∷ []) ∷ []
+part_cells : own_cells (labelled Int64) sum_parts 1 ≡ cell 0 (1 ∷ []) ∷ cell 1 (1 ∷ []) ∷ []
 unfolding labelled array
 part_cells = refl
 
@@ -91,7 +92,7 @@ last_walk = refl
 unfoldable rows : List ArrayInfo
 rows = array Int32 (2 ∷ 5 ∷ []) (1 ∷ 2 ∷ []) ∷ array Int32 (5 ∷ []) (2 ∷ []) ∷ array Int64 (2 ∷ 3 ∷ 3 ∷ []) (1 ∷ 3 ∷ 1 ∷ []) ∷ []
 
-row_cells : input_cells rows (GroupFold Sum 1 3 0 1 2) 4 ≡ cell 0 (1 ∷ 1 ∷ []) ∷ cell 1 (1 ∷ []) ∷ []
+row_cells : own_cells rows (GroupFold Sum 1 3 0 1 2) 4 ≡ cell 0 (1 ∷ 1 ∷ []) ∷ cell 1 (1 ∷ []) ∷ []
 unfolding rows array
 row_cells = refl
 
@@ -103,7 +104,7 @@ row_walks = refl
 unfoldable nothing : List ArrayInfo
 nothing = array Int32 (0 ∷ []) (2 ∷ []) ∷ array Int32 (0 ∷ []) (2 ∷ []) ∷ array Int64 (3 ∷ []) (3 ∷ []) ∷ []
 
-nothing_read : input_cells nothing sum_parts 0 ≡ []
+nothing_read : own_cells nothing sum_parts 0 ≡ []
 unfolding nothing array
 nothing_read = refl
 

@@ -18,6 +18,7 @@ pub mod GroupLists
 pub mod Spans
 pub mod MatrixRegions
 pub mod MatrixBoxes
+pub mod Listed
 pub mod Lists
 pub mod Steps
 pub mod Plans
@@ -30,6 +31,9 @@ pub mod Ranges
 pub mod Singles
 pub mod WalkCells
 pub mod Nested
+pub mod NeededTogether
+pub mod Depths
+pub mod Projections
 pub mod MapRegions
 pub mod Wholes
 pub mod Matrices
@@ -38,9 +42,14 @@ pub mod TaskCells
 pub mod ReducedBoxes
 pub mod InputBoxes
 pub mod TaskInputs
+pub mod AllStored
+pub mod Fetched
+pub mod InnerRegions
+pub mod Fetching
 pub mod Makers
 pub mod Spellings
 pub mod ByLabels
 mod Examples
 mod KindExamples
 mod LabelExamples
+mod InlinedExamples

@@ -1,22 +1,22 @@
 -- The task that writes a chunk of a made array, as it is computed from the chunk's coordinate.
-use Rattle.std.proofs.Common.{◌≡◌, ℕ, ◌<◌, ◌≤◌, ◌*◌, List, length, Some, ap, sym, ◌∙◌}
+use Rattle.std.proofs.Common.{◌≡◌, ℕ, ◌<◌, ◌≤◌, ◌*◌, List, length, Some, ap, sym, ◌∙◌, false}
 use Rattle.std.proofs.lemmas.List.Elements.{All-contains}
 use Rattle.cu_shape.specs.Index.{product, quotients}
 use Rattle.cu_shape.proofs.Axes.{length-axis_by_axis}
 use Rattle.cu_grid.specs.Counts.{chunk_lo}
 use Rattle.cu_grid.specs.Grid.{IsGrid, IsCoordinate}
 use Rattle.cu_grid.proofs.Regions.{coordinate-length}
-use Rattle.cu_op.specs.Arrays.{grid_at, grid_counts, maker_at}
+use Rattle.cu_op.specs.Arrays.{grid_at, grid_counts, maker_at, is_inlined}
 use Rattle.cu_op.specs.Chunks.{cell}
 use Rattle.cu_op.specs.Cells.{task_grid}
 use Rattle.cu_op.specs.Operation.{writes_of}
 use Rattle.cu_op.specs.PlanView.{PlanView}
-use Rattle.cu_op.specs.Schedule.{op_of, task_at, WritesCell, IsNested}
+use Rattle.cu_op.specs.Schedule.{op_of, task_at, WritesCell, IsNested, MakesChunk}
 use Rattle.cu_op.specs.Sound.{Sound}
 use Rattle.cu_op.proofs.Nested.{begins_in}
 use Rattle.cu_op.proofs.Operations as ops
-use Rattle.cu_op.proofs.Plans.{grid_ok, few_tasks}
-use Rattle.cu_op.proofs.TaskCells.{fit_of, task_for}
+use Rattle.cu_op.proofs.Plans.{grid_ok, few_regions}
+use Rattle.cu_op.proofs.TaskCells.{fit_of, region_for, writes_of_stored}
 
 module _ (p : PlanView) (s : Sound p) (k a : ℕ) (coord : List ℕ) (within : a < length p.arrays) (here : IsCoordinate (grid_at p.arrays a) coord)
     (made : maker_at p.arrays a ≡ Some k) where
@@ -42,7 +42,10 @@ module _ (p : PlanView) (s : Sound p) (k a : ℕ) (coord : List ℕ) (within : a
   made_box = (begins_in (grid_at p.arrays a) (task_grid p.arrays (op_of p k)) coord (grid_ok p a s within) tasks_ok nested here).region
 
   pub made_few : product (grid_counts (task_grid p.arrays (op_of p k))) ≤ 65536
-  made_few = few_tasks p k s operation
+  made_few = few_regions p k s operation
 
-  pub made_writes : WritesCell p k (task_at p.arrays (op_of p k) (cell a coord)) a coord
-  made_writes = task_for p s k a coord (record { within = within; made = λ none. cc; coordinate = here }) made
+  pub made_makes : MakesChunk p k (task_at p.arrays (op_of p k) (cell a coord)) a coord
+  made_makes = region_for p s k a coord within here made
+
+  pub made_writes : is_inlined p.arrays a ≡ false → WritesCell p k (task_at p.arrays (op_of p k) (cell a coord)) a coord
+  made_writes stored = writes_of_stored p s k _ a coord made_makes stored

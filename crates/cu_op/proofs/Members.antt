@@ -24,3 +24,8 @@ bool_cases false = inr refl
 
 pub not_any : (xs : List ℕ) (a : ℕ) → (Contains xs a → ⊥) → list_any (λ b. b == a) xs ≡ false
 not_any xs a never = elim (bool_cases (list_any (λ b. b == a) xs)) [ inl t ↦ absurd (never (any_contains xs a t)) | inr f ↦ f ]
+
+-- the only member of a list
+pub only_member : {A : Type 0} (x w : A) → Contains (x ∷ []) w → x ≡ w
+only_member x w (zero, l, e) = e
+only_member x w (suc k, l, e) = absurd (omega arith)

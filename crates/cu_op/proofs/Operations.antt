@@ -10,7 +10,7 @@ use Rattle.cu_op.proofs.Spans.{IsSpan, chunk_span}
 use Rattle.cu_op.proofs.WalkCells.{AreApart, AreDifferent}
 use Rattle.cu_op.proofs.WalksOf.{LiesIn}
 use Rattle.cu_op.specs.Arrays.{grid_at, grid_counts}
-use Rattle.cu_op.specs.Cells.{tasks_of, task_grid, task_coord, task_lo, task_hi}
+use Rattle.cu_op.specs.Cells.{regions_of, task_grid, task_coord, task_lo, task_hi}
 use Rattle.cu_op.specs.Kinds.{kind_of}
 use Rattle.cu_op.specs.Operation.{writes_of, reads_of, target_of, IsMadeBy, IsReadable, Fits}
 use Rattle.cu_op.specs.Schedule.{IsNested}
@@ -51,18 +51,18 @@ module _ (arrays : List ArrayInfo) (grids : (a : ℕ) → a < length arrays → 
     pub write_walks_differ : (op : Op) (lo hi : List ℕ) → Fit arrays k op → AreDifferent (map (λ a. walk a lo hi) (writes_of op))
     write_walks_differ op lo hi fit = (laws_of op).differ arrays lo hi (stands op fit)
 
-    pub region_of : (op : Op) (task : ℕ) → Fit arrays k op → task < tasks_of arrays op → IsRegion (task_grid arrays op).shape (task_lo arrays op task) (task_hi arrays op task)
+    pub region_of : (op : Op) (task : ℕ) → Fit arrays k op → task < regions_of arrays op → IsRegion (task_grid arrays op).shape (task_lo arrays op task) (task_hi arrays op task)
     region_of op task fit h =
         let ok = grid_of_tasks op fit in
         region_inside (task_grid arrays op).shape (task_grid arrays op).chunk (task_coord arrays op task) ok.positive ok.ranks (index-inside (grid_counts (task_grid arrays op)) task h)
 
     -- which has an index on each axis, and is one chunk of the tasks' grid
-    pub filled_of : (op : Op) (task : ℕ) → Fit arrays k op → task < tasks_of arrays op → IsFilled (task_grid arrays op).shape (task_lo arrays op task) (task_hi arrays op task)
+    pub filled_of : (op : Op) (task : ℕ) → Fit arrays k op → task < regions_of arrays op → IsFilled (task_grid arrays op).shape (task_lo arrays op task) (task_hi arrays op task)
     filled_of op task fit h =
         let ok = grid_of_tasks op fit in
         chunk_filled (task_grid arrays op).shape (task_grid arrays op).chunk (task_coord arrays op task) ok.positive ok.ranks (index-inside (grid_counts (task_grid arrays op)) task h)
 
-    pub span_of : (op : Op) (task : ℕ) → Fit arrays k op → task < tasks_of arrays op → IsSpan (task_grid arrays op).shape (task_grid arrays op).chunk (task_lo arrays op task) (task_hi arrays op task)
+    pub span_of : (op : Op) (task : ℕ) → Fit arrays k op → task < regions_of arrays op → IsSpan (task_grid arrays op).shape (task_grid arrays op).chunk (task_lo arrays op task) (task_hi arrays op task)
     span_of op task fit h =
         let ok = grid_of_tasks op fit in
         chunk_span (task_grid arrays op).shape (task_grid arrays op).chunk (task_coord arrays op task) ok.ranks
@@ -73,7 +73,7 @@ module _ (arrays : List ArrayInfo) (grids : (a : ℕ) → a < length arrays → 
     pub region_over : (op : Op) (lo hi : List ℕ) → Fit arrays k op → IsFilled (task_grid arrays op).shape lo hi → All (IsWalkOver arrays) (region_walks arrays op lo hi)
     region_over op lo hi fit f = (laws_of op).over arrays lo hi (stands op fit) f
 
-    pub input_over : (op : Op) (task : ℕ) → Fit arrays k op → task < tasks_of arrays op → All (IsWalkOver arrays) (input_walks arrays op task)
+    pub input_over : (op : Op) (task : ℕ) → Fit arrays k op → task < regions_of arrays op → All (IsWalkOver arrays) (input_walks arrays op task)
     input_over op task fit h = region_over op (task_lo arrays op task) (task_hi arrays op task) fit (filled_of op task fit h)
 
     -- which is of the arrays that are read
@@ -82,7 +82,7 @@ module _ (arrays : List ArrayInfo) (grids : (a : ℕ) → a < length arrays → 
         subst (λ (numbers : List ℕ). Contains numbers w.array) ((laws_of op).walked arrays (task_lo arrays op task) (task_hi arrays op task))
         (map_contains (λ (x : Walk). x.array) (input_walks arrays op task) w there)
 
-    pub input_apart : (op : Op) (task : ℕ) (v w : Walk) → Fit arrays k op → task < tasks_of arrays op → Contains (input_walks arrays op task) v → Contains (input_walks arrays op task) w → v ≢ w → IsWalkOver arrays v → IsWalkOver arrays w → AreApart arrays v w
+    pub input_apart : (op : Op) (task : ℕ) (v w : Walk) → Fit arrays k op → task < regions_of arrays op → Contains (input_walks arrays op task) v → Contains (input_walks arrays op task) w → v ≢ w → IsWalkOver arrays v → IsWalkOver arrays w → AreApart arrays v w
     input_apart op task v w fit h = (laws_of op).apart arrays (task_lo arrays op task) (task_hi arrays op task) (stands op fit) (filled_of op task fit h) (span_of op task fit h) v w
 
     -- ---- what the rule reads at an index of the region lies in a walk
@@ -100,6 +100,6 @@ module _ (arrays : List ArrayInfo) (grids : (a : ℕ) → a < length arrays → 
         subst (λ (x : ℕ). IsInside (grid_at arrays x).shape i) l.array (within_inside (grid_at arrays l.one.array).shape l.one.region.lo l.one.region.hi i over.1 l.within)
 
     -- and at an index of the task's region it lies in a walk
-    pub input_reads : (op : Op) (task a : ℕ) (idx i : List ℕ) → Fit arrays k op → task < tasks_of arrays op → IsInside (task_grid arrays op).shape idx → IsWithin (task_lo arrays op task) (task_hi arrays op task) idx → ReadsAt op arrays idx a i
+    pub input_reads : (op : Op) (task a : ℕ) (idx i : List ℕ) → Fit arrays k op → task < regions_of arrays op → IsInside (task_grid arrays op).shape idx → IsWithin (task_lo arrays op task) (task_hi arrays op task) idx → ReadsAt op arrays idx a i
         → LiesIn (input_walks arrays op task) a i
     input_reads op task a idx i fit h inside within reads = region_reads op (task_lo arrays op task) (task_hi arrays op task) a idx i fit (filled_of op task fit h) inside within reads

@@ -33,8 +33,8 @@ use Rattle.std.specs.List.{list_any}
 abbrev TypedUpTo : List ArrayInfo → ℕ → Elements → Type 0
 TypedUpTo arrays n at = (a : ℕ) (idx : List ℕ) (x : ℤ) → IsReadable arrays n a → IsInside (grid_at arrays a).shape idx → at a idx ≡ Some x → InRange (type_at arrays a) x
 
-module _ (arrays : List ArrayInfo) (grids : (a : ℕ) → a < length arrays → IsGrid (grid_at arrays a)) (reserved : ℕ) where
-  step_range : (o : Planned) (n : ℕ) (at : Elements) → IsOperation arrays reserved n o → ((a : ℕ) → a < length arrays → maker_at arrays a ≡ Some n → Contains (writes_of o.op) a)
+module _ (arrays : List ArrayInfo) (grids : (a : ℕ) → a < length arrays → IsGrid (grid_at arrays a)) where
+  step_range : (o : Planned) (n : ℕ) (at : Elements) → IsOperation arrays n o.op → ((a : ℕ) → a < length arrays → maker_at arrays a ≡ Some n → Contains (writes_of o.op) a)
       → TypedUpTo arrays n at → TypedUpTo arrays (n + 1) (updated o.op arrays at)
   step_range o n at ok all typed a idx x readable inside v =
       elim (bool_cases (list_any (λ b. b == a) (writes_of o.op))) [
@@ -55,23 +55,23 @@ module _ (arrays : List ArrayInfo) (grids : (a : ℕ) → a < length arrays → 
       earlier (Some k) h other = elim (eqb_tells k n) [ inl e ↦ absurd (other (ap Some e.1)) | inr e ↦ let d = e.1 in omega arith ]
 
   after_range : (os : List Planned) (n : ℕ) (at : Elements)
-      → ((k : ℕ) → k < length os → IsOperation arrays reserved (n + k) (operation_at os k))
+      → ((k : ℕ) → k < length os → IsOperation arrays (n + k) (operation_at os k).op)
       → ((k a : ℕ) → k < length os → a < length arrays → maker_at arrays a ≡ Some (n + k) → Contains (writes_of (operation_at os k).op) a)
       → TypedUpTo arrays n at → TypedUpTo arrays (n + length os) (values_after os arrays at)
   after_range [] n at ok all typed = subst (λ (m : ℕ). TypedUpTo arrays m at) (let e : n ≡ n + 0 = omega arith in e) typed
   after_range (o ∷ os) n at ok all typed =
-      let first : IsOperation arrays reserved n o = subst (λ (m : ℕ). IsOperation arrays reserved m o) (let e : n + 0 ≡ n = omega arith in e) (ok 0 (omega arith)) in
+      let first : IsOperation arrays n o.op = subst (λ (m : ℕ). IsOperation arrays m o.op) (let e : n + 0 ≡ n = omega arith in e) (ok 0 (omega arith)) in
       let next = step_range o n at first (λ a l e. all 0 a (omega arith) l (e ∙ ap Some (let f : n ≡ n + 0 = omega arith in f))) typed in
       let rest = after_range os (n + 1) (updated o.op arrays at)
-      (λ k l. subst (λ (m : ℕ). IsOperation arrays reserved m (operation_at os k)) (let e : n + suc k ≡ n + 1 + k = omega arith in e) (ok (suc k) (omega arith)))
+      (λ k l. subst (λ (m : ℕ). IsOperation arrays m (operation_at os k).op) (let e : n + suc k ≡ n + 1 + k = omega arith in e) (ok (suc k) (omega arith)))
       (λ k a l b e. all (suc k) a (omega arith) b (e ∙ ap Some (let f : n + 1 + k ≡ n + suc k = omega arith in f))) next in
       subst (λ (m : ℕ). TypedUpTo arrays m (values_after os arrays (updated o.op arrays at))) (let e : n + 1 + length os ≡ n + suc (length os) = omega arith in e) rest
 
 pub value_range : (p : PlanView) (env : Elements) → Sound p → HasTypes p.arrays env
     → (a : ℕ) (idx : List ℕ) (x : ℤ) → a < length p.arrays → IsInside (grid_at p.arrays a).shape idx → plan_value p env a idx ≡ Some x → InRange (type_at p.arrays a) x
 value_range p env s typed a idx x l inside v =
-    after_range p.arrays (λ b h. grid_ok p b s h) p.reserved p.ops 0 env
-    (λ k b. subst (λ (m : ℕ). IsOperation p.arrays p.reserved m (operation_at p.ops k)) (let e : k ≡ 0 + k = omega arith in e) (s.operations k b))
+    after_range p.arrays (λ b h. grid_ok p b s h) p.ops 0 env
+    (λ k b. subst (λ (m : ℕ). IsOperation p.arrays m (operation_at p.ops k).op) (let e : k ≡ 0 + k = omega arith in e) (s.operations k b))
     (λ k b h within e. (s.makers b k within (e ∙ ap Some (let f : 0 + k ≡ k = omega arith in f))).1)
     (λ b i y readable there e. typed b i y readable.0 (none_before (maker_at p.arrays b) readable.1) e)
     a idx x (l, before_end (maker_at p.arrays a) (λ k e. (s.makers a k l e).0)) inside v

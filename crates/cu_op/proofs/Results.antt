@@ -9,7 +9,7 @@ use Rattle.cu_op.specs.Schedule.{IsNested}
 use Rattle.cu_op.specs.Chunks.{walk}
 use Rattle.cu_op.specs.declared.layout.ArrayInfo.{ArrayInfo}
 use Rattle.cu_op.specs.declared.walks.Walk.{Walk}
-use Rattle.std.proofs.Common.{◌≡◌, ℕ, zero, suc, ◌<◌, List, [], ◌∷◌, map, All, Contains, Option, None, Some, refl, ap, sym, subst, arith, ◌≢◌}
+use Rattle.std.proofs.Common.{◌≡◌, ℕ, zero, suc, ◌<◌, List, [], ◌∷◌, map, All, Contains, Option, None, Some, refl, ap, sym, subst, arith, ◌≢◌, false, true}
 use Rattle.std.proofs.lemmas.List.Elements.{All-cons, All-nil}
 
 -- the only array that is written
@@ -38,6 +38,10 @@ pair_only values out is = ap (λ (v : Option ℕ). pair_writes v out) is
 
 pub pair_compares : (source : ℕ) (rest : List ℕ) (array : ℕ) → Some source ≡ Some array → Contains (source ∷ rest) array
 pair_compares source rest array is = (0, omega arith, same_Some source array is)
+
+-- one that writes more than one chunk in a task
+pub not_one : false ≡ true → ⊥
+not_one e = cc
 
 module _ (arrays : List ArrayInfo) where
   pub nested_only : (out : ℕ) → IsGrid (grid_at arrays out) → All (λ a. IsNested (grid_at arrays a) (grid_at arrays out)) (out ∷ [])

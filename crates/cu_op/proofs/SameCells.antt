@@ -16,7 +16,7 @@ use Rattle.cu_op.proofs.Spans.{IsSpan, span_back, span_chunk, chunk_span}
 use Rattle.cu_op.proofs.WalkCells.{walk_meets, meets_walk, kept_walk, All-new_walks, one_walk, from_walk}
 use Rattle.cu_op.proofs.Wholes.{whole_within}
 use Rattle.cu_op.specs.Arrays.{grid_at, grid_counts}
-use Rattle.cu_op.specs.Chunks.{cell, chunk_where, all_chunks, chunks_in_box, walk, whole_walk}
+use Rattle.cu_op.specs.Chunks.{cell, chunk_where, all_chunks, chunks_in_box, walk, whole_walk, IsOneChunk}
 use Rattle.cu_op.specs.Reductions.{source_coord, merged_chunks, partial_walk}
 use Rattle.cu_op.specs.Aligned.{IsAligned}
 use Rattle.cu_op.specs.Partial.{partial_grid, IsSqueezed, merge_groups}
@@ -137,15 +137,26 @@ module _ (arrays : List ArrayInfo) where
     long : length coord ≡ length r.shape
     long = coordinate-length r coord okr here
 
-    pub read_same : (c : Cell) → IsWalkOver arrays (read_walk arrays lo hi a) → HaveSame (walk_cells arrays (read_walk arrays lo hi a)) (cell a (back g.shape coord) ∷ []) c
-    read_same c over =
+    -- its region is one chunk
+    pub read_one : IsOneChunk g (read_walk arrays lo hi a).region
+    read_one =
         let n = region_lengths r.shape lo hi (region_inside r.shape r.chunk coord okr.positive okr.ranks here) in
         let rank = al.rank in
         let w = read_within g.shape lo hi lo refl (n.1 ∙ sym n.0) (let e = n.0 in omega (arith, rank, e)) own in
         let span = span_back g r lo hi oka.positive al (chunk_span r.shape r.chunk coord okr.ranks long) in
         let both = span_chunk g.shape g.chunk (back_as 0 g.shape lo) (back_as 1 g.shape hi) (back g.shape lo) oka.positive span w in
-        let all = own_chunk arrays a (back_as 0 g.shape lo) (back_as 1 g.shape hi) (back g.shape coord) c oka over (coordinate-length g (back g.shape coord) oka is_coord)
-        (both.0 ∙ ap (chunk_lo g.chunk) read_coord) (both.1 ∙ ap (chunk_hi g.shape g.chunk) read_coord) in
+        record {
+          coord = back g.shape coord;
+          long = coordinate-length g (back g.shape coord) oka is_coord;
+          begins = both.0 ∙ ap (chunk_lo g.chunk) read_coord;
+          ends = both.1 ∙ ap (chunk_hi g.shape g.chunk) read_coord;
+        }
+
+    pub read_same : (c : Cell) → IsWalkOver arrays (read_walk arrays lo hi a) → HaveSame (walk_cells arrays (read_walk arrays lo hi a)) (cell a (back g.shape coord) ∷ []) c
+    unfolding read_one
+    read_same c over =
+        let own = read_one in
+        let all = own_chunk arrays a (back_as 0 g.shape lo) (back_as 1 g.shape hi) (back g.shape coord) c oka over own.long own.begins own.ends in
         let one : chunk_where arrays a (back g.shape coord) ≡ cell a (back g.shape coord) ∷ [] = only is_coord in
         (λ h. (same_list _ _ c one).0 (all.0 h), λ h. all.1 ((same_list _ _ c one).1 h))
       where
@@ -163,6 +174,12 @@ module _ (arrays : List ArrayInfo) where
   chunk_same a sizes at lo hi c ok over e b = own_chunk arrays a lo hi at c ok over b.long (b.begins ∙ ap (λ (cs : List ℕ). chunk_lo cs at) e) (b.ends ∙ ap (λ (cs : List ℕ). chunk_hi (grid_at arrays a).shape cs at) e)
 
   -- an operand of a product
+  pub operand_one : (a : ℕ) (at l h : List ℕ) → IsGrid (grid_at arrays a) → length at ≡ length (grid_at arrays a).shape → l ≡ chunk_lo (grid_at arrays a).chunk at
+      → IsSpan (grid_at arrays a).shape (grid_at arrays a).chunk l h → IsOneChunk (grid_at arrays a) (walk a l h).region
+  operand_one a at l h ok long begins span =
+      let g = grid_at arrays a in
+      record { coord = at; long = long; begins = begins; ends = span_ends g.shape g.chunk at h ok.positive long (subst (λ (ls : List ℕ). IsSpan g.shape g.chunk ls h) begins span) }
+
   pub operand_same : (a : ℕ) (at lo hi : List ℕ) (c : Cell) → IsGrid (grid_at arrays a) → IsWalkOver arrays (walk a lo hi) → length at ≡ length (grid_at arrays a).shape → lo ≡ chunk_lo (grid_at arrays a).chunk at
       → IsSpan (grid_at arrays a).shape (grid_at arrays a).chunk lo hi → HaveSame (walk_cells arrays (walk a lo hi)) (chunk_where arrays a at) c
   operand_same a at lo hi c ok over long begins span =
@@ -181,6 +198,21 @@ module _ (arrays : List ArrayInfo) where
         let gs = groups_of f (grid_at arrays source).chunk in
         chunk_same source (box_sizes gs (grid_at arrays source).chunk) _ _ _ c (grids source ws) over (chunk_boxes f (grid_at arrays source).chunk)
         (partial_box arrays gs source out (chunk_ranks arrays f source (grids source ws)) q (grids source ws) (grids out wo) d here)
+
+    pub folded_one : (f : ℕ → _) (source out : ℕ) (d : List ℕ) → source < length arrays → out < length arrays
+        → IsSqueezed (partial_grid (groups_of f (grid_at arrays source).chunk) (grid_at arrays source)) (grid_at arrays out) → IsCoordinate (grid_at arrays out) d
+        → IsOneChunk (grid_at arrays source) (partial_walk arrays (groups_of f (grid_at arrays source).chunk) source out (chunk_lo (grid_at arrays out).chunk d) (chunk_hi (grid_at arrays out).shape (grid_at arrays out).chunk d)).region
+    folded_one f source out d ws wo q here =
+        let g = grid_at arrays source in
+        let gs = groups_of f g.chunk in
+        let b = partial_box arrays gs source out (chunk_ranks arrays f source (grids source ws)) q (grids source ws) (grids out wo) d here in
+        let e = chunk_boxes f g.chunk in
+        record {
+          coord = source_coord arrays gs source out d;
+          long = b.long;
+          begins = b.begins ∙ ap (λ (cs : List ℕ). chunk_lo cs (source_coord arrays gs source out d)) e;
+          ends = b.ends ∙ ap (λ (cs : List ℕ). chunk_hi g.shape cs (source_coord arrays gs source out d)) e;
+        }
 
     pub merged_same : (axis group source out : ℕ) (d : List ℕ) (c : Cell) → source < length arrays → out < length arrays → axis < length (grid_at arrays source).shape
         → IsSqueezed (partial_grid (merge_groups axis group (grid_at arrays source)) (grid_at arrays source)) (grid_at arrays out) → IsCoordinate (grid_at arrays out) d

@@ -1,4 +1,6 @@
 -- A plan of one map is sound, and the kernel of an addition fits.
+use Rattle.cu_op.proofs.AllStored.{all_projection}
+use Rattle.cu_op.proofs.Members.{bool_cases}
 use Rattle.cu_grid.specs.Grid.{RegularGrid, IsGrid}
 use Rattle.cu_num.proofs.TypeTests.{is_integer-IsInteger}
 use Rattle.cu_num.specs.Dtype.{IsInteger}
@@ -9,17 +11,17 @@ use Rattle.cu_num.specs.declared.layout.Sep.TheVariants.{Slash}
 use Rattle.cu_num.specs.declared.types.Dtype.{Dtype}
 use Rattle.cu_op.proofs.KeyTexts.{keys_differ}
 use Rattle.cu_op.proofs.KindLaws.{laws_of}
-use Rattle.cu_op.proofs.Plans.{scratch_parts}
+use Rattle.cu_op.proofs.Plans.{scratch_parts, all_own}
 use Rattle.cu_op.proofs.Rooms.{any_room_few, greatest_few}
-use Rattle.cu_op.specs.Arrays.{array_at, grid_at, maker_at, grid_counts, array_chunk_count, no_array, chunk_room}
-use Rattle.cu_op.specs.Cells.{tasks_of}
+use Rattle.cu_op.specs.Arrays.{array_at, grid_at, maker_at, grid_counts, array_chunk_count, no_array, chunk_room, is_inlined}
+use Rattle.cu_op.specs.Cells.{regions_of}
 use Rattle.cu_op.specs.KernelTypes.{Typed, KernelFits}
 use Rattle.cu_op.specs.Layout.{IsArray}
 use Rattle.cu_op.specs.OneMap.{OneMap, Makes, addition_of, HasGridAndType, AddsAlike}
 use Rattle.cu_op.specs.Operation.{writes_of, reads_of, target_of, IsMadeBy, IsReadable, Fits, IsBefore}
 use Rattle.cu_op.specs.Aligned.{IsAlignedAlong, IsAligned}
-use Rattle.cu_op.specs.PlanView.{operation_at}
-use Rattle.cu_op.specs.Projection.{projection, instruction_count, HasSmallRegions}
+use Rattle.cu_op.specs.PlanView.{operation_at, PlanView}
+use Rattle.cu_op.specs.Projection.{projection, instruction_count, HasSmallRegions, own_projection}
 use Rattle.cu_op.specs.Sound.{Sound, made_chunks, cells_by, IsOperation}
 use Rattle.cu_op.specs.declared.kernel.Instr.TheVariants.{Load, Two}
 use Rattle.cu_op.specs.declared.layout.ArrayInfo.{ArrayInfo}
@@ -27,7 +29,7 @@ use Rattle.cu_op.specs.declared.operation.Op.{Op}
 use Rattle.cu_op.specs.declared.operation.Planned.{Planned}
 use Rattle.cu_shape.specs.Counts.{largest}
 use Rattle.cu_shape.specs.Index.{product}
-use Rattle.std.proofs.Common.{◌≡◌, inl, inr, ℕ, zero, suc, ◌<◌, ◌+◌, List, [], ◌∷◌, ◌++◌, length, map, All, Contains, Option, None, Some, get_or, refl, ap, sym, ◌∙◌, subst, arith, ◌≤◌, ◌-◌, drop, ◌≢◌, ◌^◌, sum_by}
+use Rattle.std.proofs.Common.{◌≡◌, inl, inr, ℕ, zero, suc, ◌<◌, ◌+◌, List, [], ◌∷◌, ◌++◌, length, map, All, Contains, Option, None, Some, get_or, refl, ap, sym, ◌∙◌, subst, arith, ◌≤◌, ◌-◌, drop, ◌≢◌, ◌^◌, sum_by, false}
 use Rattle.std.proofs.lemmas.Bool.{cases_lt}
 use Rattle.std.proofs.lemmas.List.{length-append, get_or_append_left, get_or_at}
 use Rattle.std.proofs.lemmas.List.Elements.{All-cons, All-nil, All-head, All-tail, All-append}
@@ -56,32 +58,42 @@ only_made inputs made a makers h some =
 no_cells : (inputs : List ArrayInfo) → All (λ i. i.maker ≡ None) inputs → sum_by made_chunks inputs ≡ 0
 no_cells [] h = refl
 no_cells (i ∷ is) h =
-    let first : cells_by i.maker (array_chunk_count i) ≡ 0 = none_made i.maker (array_chunk_count i) (All-head (λ (x : ArrayInfo). x.maker ≡ None) i is h) in
+    let first : made_chunks i ≡ 0 = none_made i (All-head (λ (x : ArrayInfo). x.maker ≡ None) i is h) in
     let rest = no_cells is (All-tail (λ (x : ArrayInfo). x.maker ≡ None) i is h) in
-    sum_by-cons made_chunks i is ∙ (let e : cells_by i.maker (array_chunk_count i) + sum_by made_chunks is ≡ 0 = omega (arith, first, rest) in e)
+    sum_by-cons made_chunks i is ∙ (let e : made_chunks i + sum_by made_chunks is ≡ 0 = omega (arith, first, rest) in e)
   where
-    none_made : (m : Option ℕ) (chunks : ℕ) → m ≡ None → cells_by m chunks ≡ 0
-    none_made None chunks e = refl
-    none_made (Some k) chunks e = cc
+    none_counted : (m : Option ℕ) (chunks : ℕ) → m ≡ None → cells_by m chunks ≡ 0
+    none_counted None chunks e = refl
+    none_counted (Some k) chunks e = cc
+
+    none_made : (i : ArrayInfo) → i.maker ≡ None → made_chunks i ≡ 0
+    none_made i none = elim (bool_cases i.inlined) [ inl t ↦ rw t refl | inr f ↦ rw f (none_counted i.maker (array_chunk_count i) none) ]
+
+made_few : (i : ArrayInfo) → made_chunks i ≤ array_chunk_count i
+made_few i = elim (bool_cases i.inlined) [ inl t ↦ rw t (omega arith) | inr f ↦ rw f (at_most i.maker (array_chunk_count i)) ]
+  where
+    at_most : (m : Option ℕ) (chunks : ℕ) → cells_by m chunks ≤ chunks
+    at_most None chunks = omega arith
+    at_most (Some k) chunks = omega arith
 
 cells_few : (inputs : List ArrayInfo) (made : ArrayInfo) → All (λ i. i.maker ≡ None) inputs → array_chunk_count made ≤ 65536 → sum_by made_chunks (inputs ++ made ∷ []) ≤ 262144
 cells_few inputs made makers few =
     let whole = sum_by-append made_chunks inputs (made ∷ []) in
     let none = no_cells inputs makers in
-    let one = at_most made.maker (array_chunk_count made) in
-    let last : sum_by made_chunks (made ∷ []) ≡ cells_by made.maker (array_chunk_count made) = omega arith in
+    let one = made_few made in
+    let last = sum_by-cons made_chunks made [] in
     omega (arith, whole, none, one, last, few)
-  where
-    at_most : (m : Option ℕ) (chunks : ℕ) → cells_by m chunks ≤ chunks
-    at_most None chunks = omega arith
-    at_most (Some k) chunks = omega arith
 
 -- the operation itself
 writes_last : (op : Op) (array : ℕ) → Makes op array → writes_of op ≡ array ∷ []
 writes_last (Map kernel ins out) array h = ap (λ a. a ∷ []) h
 writes_last op array h = absurd h
 
-tasks_last : (op : Op) (arrays : List ArrayInfo) (array : ℕ) → Makes op array → tasks_of arrays op ≡ array_chunk_count (array_at arrays array)
+target_last : (op : Op) (array : ℕ) → Makes op array → target_of op ≡ array
+target_last (Map kernel ins out) array h = h
+target_last op array h = absurd h
+
+tasks_last : (op : Op) (arrays : List ArrayInfo) (array : ℕ) → Makes op array → regions_of arrays op ≡ array_chunk_count (array_at arrays array)
 tasks_last (Map kernel ins out) arrays array h = ap (λ a. array_chunk_count (array_at arrays a)) h
 tasks_last op arrays array h = absurd h
 
@@ -91,9 +103,8 @@ readable_input inputs made a makers h =
     let none : maker_at (inputs ++ made ∷ []) a ≡ None = ap (λ (i : ArrayInfo). i.maker) (at_input inputs made a h) ∙ makers a no_array h in
     (omega (arith, n, h), subst (λ (m : Option ℕ). IsBefore m 0) (sym none) tt)
 
-one_operation : (inputs : List ArrayInfo) (made : ArrayInfo) (o : Planned) (reserved : ℕ) → OneMap inputs made o.op → o.projected ≡ projection (inputs ++ made ∷ []) reserved o.op → o.projected < 2 ^ 64
-    → IsOperation (inputs ++ made ∷ []) reserved 0 o
-one_operation inputs made o reserved m projected room =
+one_operation : (inputs : List ArrayInfo) (made : ArrayInfo) (o : Planned) → OneMap inputs made o.op → IsOperation (inputs ++ made ∷ []) 0 o.op
+one_operation inputs made o m =
     let n = long inputs made in
     record {
       reads = λ k d h. readable_input inputs made (get_or (reads_of o.op) k d) m.makers (m.reads k d h);
@@ -101,20 +112,23 @@ one_operation inputs made o reserved m projected room =
           (All-cons (IsMadeBy (inputs ++ made ∷ []) 0) (length inputs) []
           (omega (arith, n), ap (λ (i : ArrayInfo). i.maker) (at_made inputs made) ∙ m.maker) (All-nil (IsMadeBy (inputs ++ made ∷ []) 0)));
       fits = m.fits;
-      projected = projected;
-      room = room;
     }
 
-pub one_map_sound : (inputs : List ArrayInfo) (made : ArrayInfo) (o : Planned) (allowed reserved : ℕ) → OneMap inputs made o.op → o.projected ≡ projection (inputs ++ made ∷ []) reserved o.op → o.projected < 2 ^ 64
+pub one_map_sound : (inputs : List ArrayInfo) (made : ArrayInfo) (o : Planned) (allowed reserved : ℕ) → OneMap inputs made o.op → o.projected ≡ own_projection (inputs ++ made ∷ []) reserved o.op → o.projected < 2 ^ 64
     → Sound (record { arrays = inputs ++ made ∷ []; ops = o ∷ []; out = length inputs; allowed = allowed; reserved = reserved })
 one_map_sound inputs made o allowed reserved m projected room =
     let n = long inputs made in
     let arrays : List ArrayInfo = inputs ++ made ∷ [] in
-    let one = one_operation inputs made o reserved m projected room in
+    let one = one_operation inputs made o m in
+    let p : PlanView = record { arrays = inputs ++ made ∷ []; ops = o ∷ []; out = length inputs; allowed = allowed; reserved = reserved } in
+    let alone = λ (k : ℕ). all_projection p k m.stored in
     let ok = All-append IsArray inputs (made ∷ []) m.given (All-cons IsArray made [] m.result (All-nil IsArray)) in
     let few = m.few in
     record {
-      operations = single inputs made o reserved one;
+      operations = single inputs made o one;
+      projections = λ k h. subst (λ (j : ℕ). (operation_at (o ∷ []) j).projected ≡ projection p j) (only_one k h) (projected ∙ sym (alone 0));
+      rooms = λ k h. subst (λ (j : ℕ). projection p j < 2 ^ 64) (only_one k h) (subst (λ (n : ℕ). n < 2 ^ 64) (projected ∙ sym (alone 0)) room);
+      inlined = λ a h inner. let stored = m.stored a no_array h in cc;
       makers = λ a k h e. let last : a ≡ length inputs = only_made inputs made a m.makers h (λ none. cc) in
           let made_by : maker_at (inputs ++ made ∷ []) (length inputs) ≡ Some 0 = ap (λ (i : ArrayInfo). i.maker) (at_made inputs made) ∙ m.maker in
           let is_k : maker_at (inputs ++ made ∷ []) (length inputs) ≡ Some k = subst (λ (b : ℕ). maker_at (inputs ++ made ∷ []) b ≡ Some k) last e in
@@ -123,9 +137,9 @@ one_map_sound inputs made o allowed reserved m projected room =
           (omega arith, subst (λ (ws : List ℕ). Contains ws a) (sym (writes_last o.op (length inputs) m.makes)) (0, omega arith, sym last));
       arrays = ok;
       keys = keys_differ (inputs ++ made ∷ []) ok (record {
-        encodings = λ a h some. let last = only_made inputs made a m.makers h some in
+        encodings = λ a c. let last = only_made inputs made a m.makers c.within c.made in
             subst (λ (b : ℕ). (array_at (inputs ++ made ∷ []) b).layout.encoding ≡ Plain Slash) (sym last) (ap (λ (i : ArrayInfo). i.layout.encoding) (at_made inputs made) ∙ m.encoding);
-        prefixes = λ a b ha hb sa sb e. only_made inputs made a m.makers ha sa ∙ sym (only_made inputs made b m.makers hb sb);
+        prefixes = λ a b ca cb e. only_made inputs made a m.makers ca.within ca.made ∙ sym (only_made inputs made b m.makers cb.within cb.made);
       });
       out = omega (arith, n);
       array_count = omega (arith, n, few);
@@ -137,16 +151,20 @@ one_map_sound inputs made o allowed reserved m projected room =
             (subst (λ (i : ArrayInfo). array_chunk_count i ≤ 65536) (sym (at_made inputs made)) m.result_chunks)
       ];
       tasks =
+          let own = all_own (inputs ++ made ∷ []) o.op (subst (λ (b : ℕ). is_inlined (inputs ++ made ∷ []) b ≡ false) (sym (target_last o.op (length inputs) m.makes)) (m.stored (length inputs) no_array (omega (arith, n)))) in
           let t = tasks_last o.op (inputs ++ made ∷ []) (length inputs) m.makes in
           let e : array_chunk_count (array_at (inputs ++ made ∷ []) (length inputs)) ≡ array_chunk_count made = ap array_chunk_count (at_made inputs made) in
           let r = m.result_chunks in
-          omega (arith, t, e, r);
+          omega (arith, own, t, e, r);
       cells = cells_few inputs made m.makers m.result_chunks;
     }
   where
-    single : (inputs : List ArrayInfo) (made : ArrayInfo) (o : Planned) (reserved : ℕ) → IsOperation (inputs ++ made ∷ []) reserved 0 o → (k : ℕ) → k < 1 → IsOperation (inputs ++ made ∷ []) reserved k (operation_at (o ∷ []) k)
-    single inputs made o reserved one zero h = one
-    single inputs made o reserved one (suc k) h = absurd (omega arith)
+    single : (inputs : List ArrayInfo) (made : ArrayInfo) (o : Planned) → IsOperation (inputs ++ made ∷ []) 0 o.op → (k : ℕ) → k < 1 → IsOperation (inputs ++ made ∷ []) k (operation_at (o ∷ []) k).op
+    single inputs made o one zero h = one
+    single inputs made o one (suc k) h = absurd (omega arith)
+
+    only_one : (k : ℕ) → k < 1 → 0 ≡ k
+    only_one k h = omega arith
 
 -- an array is aligned to one of its own grid
 same_along : (ns cs : List ℕ) → length cs ≡ length ns → IsAlignedAlong ns cs ns cs
@@ -195,6 +213,7 @@ add_one_map stays inputs made g t i j h =
       encoding = h.encoding;
       given_chunks = λ k d l. subst (λ (r : RegularGrid). product (grid_counts r) ≤ 65536) (sym (h.given k d l).grid) h.few_chunks;
       result_chunks = subst (λ (r : RegularGrid). product (grid_counts r) ≤ 65536) (sym h.result.grid) h.few_chunks;
+      stored = h.stored;
       few = h.few;
       makes = refl;
       reads = All-cons W i (j ∷ []) h.first (All-cons W j [] h.second (All-nil W));
@@ -210,7 +229,7 @@ written_few : (ws : List ℕ) (arrays : List ArrayInfo) → All IsArray arrays �
 written_few ws arrays ok = greatest_few (chunk_room arrays) (2 ^ 43) ws (λ k d h. any_room_few arrays (get_or ws k d) (get_or ws k d) ok)
 
 pub projection_few : (op : Op) (arrays : List ArrayInfo) (reserved : ℕ) → All IsArray arrays → All (λ a. a < length arrays) (reads_of op) → target_of op < length arrays
-    → length (reads_of op) ≤ 8 → instruction_count op ≤ 32 → HasSmallRegions op → reserved ≤ 2 ^ 40 → projection arrays reserved op < 2 ^ 64
+    → length (reads_of op) ≤ 8 → instruction_count op ≤ 32 → HasSmallRegions op → reserved ≤ 2 ^ 40 → own_projection arrays reserved op < 2 ^ 64
 projection_few op arrays reserved ok reads target ins code small few =
     let g = written_few (reads_of op) arrays ok in
     let w = written_few (writes_of op) arrays ok in

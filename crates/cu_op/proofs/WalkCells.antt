@@ -214,7 +214,7 @@ module _ (arrays : List ArrayInfo) where
         ]
       ]
 
-  walk_once : (w : Walk) → IsGrid (grid_at arrays w.array) → IsWalkOver arrays w → EachOnce (walk_cells arrays w)
+  pub walk_once : (w : Walk) → IsGrid (grid_at arrays w.array) → IsWalkOver arrays w → EachOnce (walk_cells arrays w)
   walk_once w ok over =
       mapped_once w.array (covering (grid_at arrays w.array).chunk w.region.lo w.region.hi) (place_of (counts_of (grid_at arrays w.array).shape (grid_at arrays w.array).chunk))
       (AllPairs-from_increasing _ (covers_in_order (grid_at arrays w.array) w.region.lo w.region.hi ok over.1))

@@ -1,7 +1,7 @@
 -- The arrays of a plan by their numbers. Past the end stands an array that means nothing.
-use Rattle.std.specs.Prelude.{◌≡◌, ℕ, pos, List, [], Option, None, slice_index_or}
+use Rattle.std.specs.Prelude.{◌≡◌, ℕ, pos, Bool, false, List, [], All, Option, None, slice_index_or}
 use Rattle.cu_num.specs.declared.types.Dtype.{Dtype}
-use Rattle.cu_num.specs.declared.types.Dtype.TheVariants.{Bool}
+use Rattle.cu_num.specs.declared.types.Dtype.TheVariants as types
 use Rattle.cu_num.specs.declared.layout.Encoding.TheVariants.{Plain}
 use Rattle.cu_num.specs.declared.layout.Sep.TheVariants.{Slash}
 use Rattle.cu_num.specs.declared.layout.Endian.TheVariants.{Little}
@@ -15,8 +15,9 @@ use Rattle.cu_op.specs.Layout.{layout_view}
 abbrev pub no_array : ArrayInfo
 no_array = record {
   prefix = [];
-  layout = record { dtype = Bool; grid = record { shape = []; chunk = [] }; encoding = Plain Slash; endian = Little; fill = pos 0 };
+  layout = record { dtype = types.Bool; grid = record { shape = []; chunk = [] }; encoding = Plain Slash; endian = Little; fill = pos 0 };
   maker = None;
+  inlined = false;
 }
 
 abbrev pub array_at : List ArrayInfo → ℕ → ArrayInfo
@@ -33,6 +34,13 @@ type_at arrays a = (array_at arrays a).layout.dtype
 
 abbrev pub maker_at : List ArrayInfo → ℕ → Option ℕ
 maker_at arrays a = (array_at arrays a).maker
+
+-- an array whose chunks are made where they are read, and never stored
+abbrev pub is_inlined : List ArrayInfo → ℕ → Bool
+is_inlined arrays a = (array_at arrays a).inlined
+
+abbrev pub AllStored : List ArrayInfo → Type 0
+AllStored arrays = All (λ a. a.inlined ≡ false) arrays
 
 -- the bytes of a chunk of an array, also at the edge
 abbrev pub chunk_room : List ArrayInfo → ℕ → ℕ

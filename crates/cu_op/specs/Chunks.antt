@@ -1,12 +1,14 @@
 -- Chunks of arrays, and walks over regions of them.
 use Rattle.cu_grid.specs.Counts.{chunk_lo, chunk_hi}
 use Rattle.cu_grid.specs.Cover.{covering}
+use Rattle.cu_grid.specs.Grid.{RegularGrid}
+use Rattle.cu_grid.specs.declared.region.Region.{Region}
 use Rattle.cu_op.specs.Arrays.{grid_at, grid_counts}
 use Rattle.cu_op.specs.declared.cells.Cell.{Cell}
 use Rattle.cu_op.specs.declared.layout.ArrayInfo.{ArrayInfo}
 use Rattle.cu_op.specs.declared.walks.Walk.{Walk}
 use Rattle.cu_shape.specs.Index.{indices_of, is_inside}
-use Rattle.std.specs.Prelude.{ℕ, List, [], ◌∷◌, if◌then◌else◌, map}
+use Rattle.std.specs.Prelude.{◌≡◌, ℕ, List, [], ◌∷◌, length, if◌then◌else◌, map}
 
 abbrev pub cell : ℕ → List ℕ → Cell
 cell a at = record { array = a; coord = at }
@@ -29,3 +31,10 @@ walk a lo hi = record { array = a; region = record { lo = lo; hi = hi } }
 -- the whole of an array
 abbrev pub whole_walk : List ArrayInfo → ℕ → Walk
 whole_walk arrays a = walk a (map (λ n. 0) (grid_at arrays a).shape) (grid_at arrays a).shape
+
+-- a region that is one chunk of a grid, or would be if the grid had it
+pub record IsOneChunk (g : RegularGrid) (region : Region) : Type 0 where
+  pub coord : List ℕ
+  pub long : length coord ≡ length g.shape
+  pub begins : region.lo ≡ chunk_lo g.chunk coord
+  pub ends : region.hi ≡ chunk_hi g.shape g.chunk coord

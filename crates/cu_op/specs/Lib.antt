@@ -13,6 +13,7 @@ pub mod Kinds
 pub mod Layout
 pub mod Matrix
 pub mod Names
+pub mod Needs
 pub mod Nested
 pub mod OneMap
 pub mod Operation
@@ -26,6 +27,7 @@ pub mod Sound
 pub mod TaskView
 pub mod Value
 pub mod Walks
+pub mod Within
 pub mod Numbers
 pub mod Form
 pub mod Along

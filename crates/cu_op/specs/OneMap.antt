@@ -1,5 +1,5 @@
 -- A plan of one map over inputs, whose result stands behind them: what makes it sound.
-use Rattle.std.specs.Prelude.{◌≡◌, ℕ, ◌^◌, ◌<◌, ◌≤◌, List, [], ◌∷◌, ◌++◌, All, length, None, Some}
+use Rattle.std.specs.Prelude.{◌≡◌, ℕ, ◌^◌, ◌<◌, ◌≤◌, false, List, [], ◌∷◌, ◌++◌, All, length, None, Some}
 use Rattle.cu_num.specs.Dtype.{IsInteger}
 use Rattle.cu_num.specs.declared.types.Dtype.{Dtype}
 use Rattle.cu_num.specs.declared.functions.Fn2.TheVariants.{Add}
@@ -26,6 +26,7 @@ pub record OneMap (inputs : List ArrayInfo) (made : ArrayInfo) (op : Op) : Type 
   pub result : IsArray made
   pub makers : All (λ a. a.maker ≡ None) inputs
   pub maker : made.maker ≡ Some 0
+  pub stored : All (λ a. a.inlined ≡ false) (inputs ++ made ∷ [])
   pub encoding : made.layout.encoding ≡ Plain Slash
   pub given_chunks : All (λ a. array_chunk_count a ≤ 65536) inputs
   pub result_chunks : array_chunk_count made ≤ 65536
@@ -50,6 +51,7 @@ pub record AddsAlike (inputs : List ArrayInfo) (made : ArrayInfo) (g : RegularGr
   pub few_chunks : product (grid_counts g) ≤ 65536
   pub given : All (HasGridAndType g t) inputs
   pub makers : All (λ a. a.maker ≡ None) inputs
+  pub stored : All (λ a. a.inlined ≡ false) (inputs ++ made ∷ [])
   pub few : length inputs < 2 ^ 31
   pub result : HasGridAndType g t made
   pub maker : made.maker ≡ Some 0

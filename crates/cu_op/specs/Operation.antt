@@ -4,7 +4,7 @@ use Rattle.cu_op.specs.Form.{Form}
 use Rattle.cu_op.specs.Kinds.{kind_of}
 use Rattle.cu_op.specs.declared.layout.ArrayInfo.{ArrayInfo}
 use Rattle.cu_op.specs.declared.operation.Op.{Op}
-use Rattle.std.specs.Prelude.{◌≡◌, ℕ, ◌<◌, ◌≤◌, List, length, Option, None, Some}
+use Rattle.std.specs.Prelude.{◌≡◌, ℕ, ◌<◌, ◌≤◌, Bool, List, length, Option, None, Some}
 
 -- the arrays that it reads, in order, and those that it writes
 abbrev pub reads_of : Op → List ℕ
@@ -16,6 +16,14 @@ writes_of op = (kind_of op).writes
 -- the array that the tasks go over: the last that it writes
 abbrev pub target_of : Op → ℕ
 target_of op = (kind_of op).target
+
+-- each of its tasks writes one chunk, and nothing else
+abbrev pub writes_one_chunk : Op → Bool
+writes_one_chunk op = (kind_of op).one_chunk
+
+-- each of its tasks reads one chunk of the array, and no two the same
+abbrev pub ReadsByChunk : List ArrayInfo → Op → ℕ → Type 0
+ReadsByChunk arrays op a = (kind_of op).by_chunk arrays a
 
 -- an operation fits its arrays; the partial results that a merge reads have the type of its own
 abbrev pub Fits : List ArrayInfo → Op → Type 0

@@ -1,6 +1,7 @@
 -- What a contract sees of a plan: its arrays, its operations, the number of the array that it is made for, and two counts of bytes.
 use Rattle.std.specs.Prelude.{ℕ, List, [], slice_index_or}
 use Rattle.cu_op.specs.declared.layout.ArrayInfo.{ArrayInfo}
+use Rattle.cu_op.specs.declared.operation.Op.{Op}
 use Rattle.cu_op.specs.declared.operation.Op.TheVariants.{Map}
 use Rattle.cu_op.specs.declared.operation.Planned.{Planned}
 
@@ -17,3 +18,6 @@ no_operation = record { op = Map (record { code = record { items = [] } }) (reco
 
 abbrev pub operation_at : List Planned → ℕ → Planned
 operation_at ops k = slice_index_or ops k no_operation
+
+abbrev pub op_of : PlanView → ℕ → Op
+op_of p k = (operation_at p.ops k).op

@@ -3,10 +3,12 @@
 use Rattle.cu_op.specs.Arrays.{chunk_room}
 use Rattle.cu_op.specs.Kinds.{kind_of}
 use Rattle.cu_op.specs.Operation.{writes_of, reads_of}
+use Rattle.cu_op.specs.PlanView.{PlanView, op_of}
+use Rattle.cu_op.specs.Within.{ops_within}
 use Rattle.cu_op.specs.declared.layout.ArrayInfo.{ArrayInfo}
 use Rattle.cu_op.specs.declared.operation.Op.{Op}
 use Rattle.cu_shape.specs.Counts.{largest}
-use Rattle.std.specs.Prelude.{ℕ, ◌+◌, ◌*◌, List, ◌++◌, map}
+use Rattle.std.specs.Prelude.{ℕ, ◌+◌, ◌*◌, List, ◌++◌, map, sum_by}
 
 -- the greatest chunk of an array that the operation reads or writes
 abbrev pub scratch_room : List ArrayInfo → Op → ℕ
@@ -23,8 +25,15 @@ output_room arrays op = (kind_of op).output_room arrays
 abbrev pub instruction_count : Op → ℕ
 instruction_count op = (kind_of op).instructions
 
-abbrev pub projection : List ArrayInfo → ℕ → Op → ℕ
-projection arrays reserved op = reserved + scratch_room arrays op + input_room arrays op + output_room arrays op + 512 * instruction_count op
+-- of an operation alone
+abbrev pub own_projection : List ArrayInfo → ℕ → Op → ℕ
+own_projection arrays reserved op = reserved + scratch_room arrays op + input_room arrays op + output_room arrays op + 512 * instruction_count op
+
+-- with the operations that stand inside its tasks: the chunk of an array that is made where it is read is an input region of its reader
+abbrev pub projection : PlanView → ℕ → ℕ
+projection p k =
+    p.reserved + largest (map (scratch_room p.arrays) (ops_within p k)) + sum_by (input_room p.arrays) (ops_within p k)
+    + output_room p.arrays (op_of p k) + 512 * sum_by instruction_count (ops_within p k)
 
 -- the numbers of an operation's own that count in its memory are small: the elements of a copy's region, and how many partial results
 -- are in a group

@@ -30,6 +30,8 @@ pub struct ArrayInfo {
     pub layout: Layout,
     /// The number of the operation that writes it, and none for an input.
     pub maker: Option<u32>,
+    /// Its chunks are made where they are read, and never stored; its prefix then names nothing.
+    pub inlined: bool,
 }
 
 /// The grid of an array by its number.

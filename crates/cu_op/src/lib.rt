@@ -4,11 +4,13 @@
 mod cells;
 mod copies;
 mod groups;
+mod inlining;
 mod kernel;
 mod kinds;
 mod laws;
 mod layout;
 mod memory;
+mod needs;
 mod numbers;
 mod operation;
 mod plan;
@@ -19,17 +21,21 @@ mod walks;
 
 pub use cells::Cell;
 pub use cu_origin::{Axes, Pull};
+pub use inlining::{is_listed, listed_number};
 pub use kernel::{Instr, Kernel};
 pub use kinds::{KindText, kind_name};
 pub use laws::{
-    chunk_law, input_cells_law, input_law, key_law, one_map_law, range_law, ready_law, task_law,
-    value_law,
+    all_stored_law, chunk_law, inlined_law, inner_law, input_cells_law, input_law, key_law,
+    one_map_law, projection_law, range_law, ready_law, region_law, task_law, value_law,
 };
 pub use layout::{ArrayInfo, Layout};
-pub use memory::projection_of;
+pub use memory::own_projection;
+pub use needs::{projection_of, steps_within};
 pub use numbers::{new_number, number_in};
 pub use operation::{Op, Planned};
 pub use plan::Plan;
-pub use schedule::{input_walks, inputs, maker, outputs, projected, task_grid, task_region, tasks};
+pub use schedule::{
+    input_walks, inputs, maker, outputs, projected, region_count, task_grid, task_region, tasks,
+};
 pub use task::PlanTask;
 pub use walks::{Cells1, Cells2, Walk};

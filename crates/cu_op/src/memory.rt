@@ -3,7 +3,7 @@ ghost use Rattle.cu_num.specs.Dtype.{size_of};
 ghost use Rattle.cu_shape.specs.Index.{product};
 ghost use Rattle.cu_op.specs.Arrays.{type_at, chunk_room};
 ghost use Rattle.cu_op.specs.Operation.{reads_of, writes_of};
-ghost use Rattle.cu_op.specs.Projection.{projection};
+ghost use Rattle.cu_op.specs.Projection.{own_projection, scratch_room};
 ghost use Rattle.cu_op.specs.Places.{value_room};
 ghost use Rattle.cu_shape.specs.Counts.{largest};
 
@@ -13,22 +13,31 @@ use crate::operation::Op;
 use cu_num::size;
 use cu_shape::Dims;
 
-/// The bytes of memory that a worker needs for a task of an operation over these arrays, the `reserved` ones counted:
-/// what `Planned::projected` has to be.
-pub fn projection_of(arrays: &[ArrayInfo], reserved: u64, op: &Op) -> u64
+/// The bytes of memory that a worker needs for a task of an operation alone over these arrays, the
+/// `reserved` ones counted: what `Planned::projected` has to be where all that the operation reads
+/// is stored.
+pub fn own_projection(arrays: &[ArrayInfo], reserved: u64, op: &Op) -> u64
     requires reads { All (λ a. a < length arrays.now) (reads_of op.now) }
     requires writes { All (λ a. a < length arrays.now) (writes_of op.now) }
-    requires small { projection arrays.now reserved op.now < 2 ^ 64 }
-    ensures { result ≡ projection arrays.now reserved op.now }
+    requires small { own_projection arrays.now reserved op.now < 2 ^ 64 }
+    ensures { result ≡ own_projection arrays.now reserved op.now }
 {
     let code = 512 * u64::from(op.steps());
-    let scratch = greatest_room(arrays, op.reads().as_slice()).max(greatest_room(
-        arrays,
-        op.writes().as_slice(),
-    ));
+    let scratch = scratch_room(arrays, op);
     let inputs = input_room(arrays, op);
     let outputs = output_room(arrays, op);
     reserved + scratch + inputs + outputs + code
+}
+
+/// The bytes of the greatest chunk that the operation reads or writes.
+pub(crate) fn scratch_room(arrays: &[ArrayInfo], op: &Op) -> u64
+    requires reads { All (λ a. a < length arrays.now) (reads_of op.now) }
+    requires writes { All (λ a. a < length arrays.now) (writes_of op.now) }
+    ensures { result ≡ scratch_room arrays.now op.now }
+{
+    let read = greatest_room(arrays, op.reads().as_slice());
+    let written = greatest_room(arrays, op.writes().as_slice());
+    read.max(written)
 }
 
 /// The bytes of a chunk of an array.

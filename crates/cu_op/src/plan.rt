@@ -142,7 +142,7 @@ impl Plan {
     pub fn operation(&self, number: u32) -> &Planned
         requires { number < length self.now.ops }
         ensures operation { result.now ≡ operation_at self.now.ops number }
-        ensures fits { IsOperation self.now.arrays self.now.reserved number result.now }
+        ensures fits { IsOperation self.now.arrays number result.now.op }
         ensures sound { Sound self.now }
     {
         &self.ops[number as usize]

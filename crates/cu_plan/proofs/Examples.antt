@@ -20,7 +20,7 @@ use Rattle.cu_plan.specs.Text.{operation_fields, plan_line, plan_text}
 use Rattle.cu_plan.specs.declared.fault.PlanFault.TheVariants.{OverMemory, OverLimit}
 
 abbrev with_memory : ℕ → Options
-with_memory allowed = record { allowed = allowed; reserved = 0; split_every = 4; retries = 2; workers = 1; backups = false }
+with_memory allowed = record { allowed = allowed; reserved = 0; split_every = 4; retries = 2; workers = 1; backups = false; fusion = 1 }
 
 abbrev rechunk : List ℕ → ℕ → ℕ → Node
 rechunk name source size = record { name = name; form = Form.Rechunk (Arg.Node source ∷ []) (size ∷ []) }

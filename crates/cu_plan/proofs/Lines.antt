@@ -1,9 +1,7 @@
 -- The line of an operation, piece by piece.
-use Rattle.std.proofs.Common.{◌≡◌, ℕ, ◌+◌, Bool, List, [], ◌∷◌, ◌++◌, codes, cond, filter, map, Result, Ok, Err, true, false, refl, ap, sym, ◌∙◌, arith}
+use Rattle.std.proofs.Common.{◌≡◌, ℕ, List, ◌++◌, codes, Result, Ok, Err, ap, ◌∙◌}
 use Rattle.std.specs.Prelude.{OnOk}
-use Rattle.std.specs.List.{range_with_len}
-use Rattle.std.proofs.lemmas.List.FromFn.{filter_of_map_range_with_len_more}
-use Rattle.std.proofs.lemmas.List.{append_assoc, append-nil}
+use Rattle.std.proofs.lemmas.List.{append_assoc}
 use Rattle.std.specs.Fmt.{decimal}
 use Rattle.cu_op.specs.Cells.{tasks_of}
 use Rattle.cu_op.specs.KindText.{kind_text}
@@ -15,25 +13,6 @@ use Rattle.cu_plan.specs.Text.{cells_of, operation_fields}
 pub on_ok : {T E : Type 0} (P Q : Type 0) (r : Result T E) → (P → Q) → OnOk r P → OnOk r Q
 on_ok P Q (Ok x) more fact = more fact
 on_ok P Q (Err e) more fact = tt
-
-map_same : (xs : List ℕ) → map (λ (x : ℕ). x) xs ≡ xs
-map_same [] = refl
-map_same (x ∷ xs) = ap (λ (ys : List ℕ). x ∷ ys) (map_same xs)
-
--- the numbers below one more that pass a test
-pub filter_more : (p : ℕ → Bool) (n : ℕ) → filter p (range_with_len 0 (n + 1)) ≡ filter p (range_with_len 0 n) ++ cond (p n) (n ∷ []) []
-filter_more p n =
-    ap (filter p) (sym (map_same (range_with_len 0 (n + 1))))
-    ∙ filter_of_map_range_with_len_more p (λ (x : ℕ). x) 0 n n (omega arith)
-    ∙ ap (λ (xs : List ℕ). filter p xs ++ cond (p n) (n ∷ []) []) (map_same (range_with_len 0 n))
-
-pub passed_over : (p : ℕ → Bool) (n : ℕ) (xs : List ℕ) → xs ≡ filter p (range_with_len 0 n) → p n ≡ false → xs ≡ filter p (range_with_len 0 (n + 1))
-passed_over p n xs is fails =
-    is ∙ sym (filter_more p n ∙ ap (λ (b : Bool). filter p (range_with_len 0 n) ++ cond b (n ∷ []) []) fails ∙ append-nil (filter p (range_with_len 0 n)))
-
-pub taken_up : (p : ℕ → Bool) (n : ℕ) (xs ys : List ℕ) → xs ≡ filter p (range_with_len 0 n) → p n ≡ true → ys ≡ xs ++ n ∷ [] → ys ≡ filter p (range_with_len 0 (n + 1))
-taken_up p n xs ys is passes more =
-    more ∙ ap (λ (zs : List ℕ). zs ++ n ∷ []) is ∙ sym (filter_more p n ∙ ap (λ (b : Bool). filter p (range_with_len 0 n) ++ cond b (n ∷ []) []) passes)
 
 -- one more piece at the end
 more : (a b t c : List ℕ) → t ≡ a ++ b → t ++ c ≡ a ++ (b ++ c)

@@ -1,22 +1,27 @@
 //! The plan of an expression.
 
-ghost use Rattle.std.specs.Prelude.{◌≡◌, ◌≤◌, All, IfErr, IfOk, OnOk, None, Ok, Some};
+ghost use Rattle.std.specs.Prelude.{◌≡◌, ◌≤◌, ◌<◌, ◌^◌, All, IfErr, IfOk, OnOk, None, Ok, Some};
 ghost use Rattle.cu_expr.specs.Typing.{typed};
 ghost use Rattle.cu_form.specs.Expression.{IsExpression};
+ghost use Rattle.cu_fuse.specs.Close.{HasMadeNames};
 ghost use Rattle.cu_lower.specs.Parts.{AreOptions};
 ghost use Rattle.cu_lower.specs.Premises.{IsLowerable};
 ghost use Rattle.cu_need.specs.Need.{AreWithinLimits};
 ghost use Rattle.cu_node.specs.Info.{IsInfo};
+ghost use Rattle.cu_op.specs.Arrays.{AllStored};
 ghost use Rattle.cu_op.specs.Layout.{IsLayout};
 ghost use Rattle.cu_op.specs.Sound.{Sound};
-ghost use Rattle.cu_plan.specs.Plan.{merged_plan_of};
+ghost use Rattle.cu_plan.specs.Plan.{inlined_plan_of, merged_plan_of};
 ghost use Rattle.cu_plan.specs.Refusal.{refusal_of, IsRefusal};
 
 use crate::fault::PlanFault;
 use crate::laws::merged_plan_law;
 use cu_expr::{InputInfo, Types, typing_law};
 use cu_form::Expr;
-use cu_fuse::fuse;
+use cu_fuse::{
+    copies_joined_law, fuse, fuse_loading_once, inline_arrays, inlining_law, join_copies,
+    made_names_law,
+};
 use cu_lower::{Options, array_law, lower};
 use cu_need::{first_over, max_mem, plan_counts, typed_law};
 use cu_node::NodeInfo;
@@ -76,7 +81,25 @@ fn check(options: &Options, expr: &Expr, infos: &[NodeInfo]) -> Result<(), PlanF
     }
 }
 
-/// The plan of an expression that is accepted, in which maps are merged.
+/// A plan of stored arrays after the merges of its maps, each of which loads an array once, in which
+/// copies are joined and arrays are made where they are read.
+fn inlined(alloc: Global, plan: Plan) -> Result<Plan, NoMemory>
+    requires names { HasMadeNames plan }
+    requires stored { AllStored plan.arrays }
+    requires sound { Sound plan }
+    requires room { plan.allowed < 2 ^ 64 }
+    ensures plan { IfOk result (λ q. q ≡ inlined_plan_of plan) }
+    ensures sound { IfOk result Sound }
+{
+    made_names_law();
+    copies_joined_law();
+    inlining_law();
+    let fused = fuse_loading_once(alloc, plan)?;
+    let joined = join_copies(alloc, fused)?;
+    inline_arrays(alloc, joined)
+}
+
+/// The plan of an expression that is accepted, in which maps are merged and arrays may be inlined.
 #[tactic(auto, unfolding(crate::specs::Plan::merged_plan_of))]
 fn merged(
     alloc: Global,
@@ -93,12 +116,18 @@ fn merged(
     merged_plan_law();
     array_law();
     let plan = lower(alloc, expr, infos, inputs, options)?;
-    fuse(alloc, plan)
+    if options.fusion == 2 {
+        inlined(alloc, plan)
+    } else {
+        fuse(alloc, plan)
+    }
 }
 
 /// The plan of an expression whose nodes have these types over these inputs. It is refused where a live node needs more than is allowed,
 /// by the first that does, and else where its tasks or its stored chunks are too many, as they are before maps are merged. Then maps are
-/// merged in it where that needs no more than is allowed, so that each of its operations needs at most that.
+/// merged in it where that needs no more than is allowed, so that each of its operations needs at most that. With the option
+/// `--fusion 2` each map also loads an array once, copies are joined, and arrays are made where they are read, where that too needs no
+/// more.
 pub fn plan(
     alloc: Global,
     expr: &Expr,

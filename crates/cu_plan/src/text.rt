@@ -3,18 +3,18 @@
 ghost use Rattle.std.specs.Prelude.{◌≡◌, ◌<◌, ◌++◌, codes, length, OnOk, IfOk};
 ghost use Rattle.std.specs.Fmt.{decimal};
 ghost use Rattle.cu_op.specs.KindText.{kind_text};
-ghost use Rattle.cu_op.specs.PlanView.{operation_at};
-ghost use Rattle.cu_plan.specs.Text.{begun_line, begun_text, comma_text, is_made_by};
-ghost use Rattle.cu_plan.specs.Text.{operation_fields, operation_line, plan_line, plan_text};
-ghost use Rattle.cu_plan.specs.Text.{reads_from, makers_read};
+ghost use Rattle.cu_plan.specs.Text.{begun_line, begun_text, comma_text, fields_of};
+ghost use Rattle.cu_plan.specs.Text.{operation_line, plan_line, plan_text};
 
-use crate::sums::{cell_count, cells_of, peak, task_count};
-use cu_op::{Op, Plan, kind_name, tasks};
+use crate::sources::source_numbers;
+use crate::sums::{cell_count, cells_of, listed_count, peak, task_count};
+use cu_op::{Op, Plan, is_listed, kind_name, listed_number, tasks};
 use cu_store::NoMemory;
 use std::alloc::{AllocError, Global};
 
-/// What a plan does: a line `op K KIND node=N tasks=T cells=C projected=P` for each operation, with its number, its kind, the number of its
-/// node, its tasks, the chunks of the arrays that it writes, and the bytes that a task needs; and then a line
+/// What a plan does: a line `op K KIND node=N tasks=T cells=C projected=P` for each operation whose
+/// result is stored, with its number among these, its kind, the number of its node, its tasks, the
+/// chunks of the arrays that it writes, and the bytes that a task needs; and then a line
 /// `plan ops=N tasks=T cells=C peak=P`, with the sums and the most bytes that a task needs.
 pub fn plan_text(alloc: Global, plan: &Plan) -> Result<Vec<u8>, NoMemory>
     ensures { IfOk result (λ text. text.items ≡ plan_text plan.now) }
@@ -27,14 +27,16 @@ fn text_of(alloc: Global, plan: &Plan) -> Result<Vec<u8>, AllocError>
 {
     let mut text = Vec::new(alloc);
     for op in 0..plan.ops().len() as u32 {
-        push_operation(&mut text, plan, op)?;
+        if is_listed(plan, op) {
+            push_operation(&mut text, plan, op)?;
+        }
     }
     push_plan(&mut text, plan)?;
     Ok(text)
 }
 
 /// What a plan that has begun does: the lines of `plan_text`, where that of an operation ends in
-/// ` reads=J,..`, the numbers of the operations that make the arrays which it reads.
+/// ` reads=J,..`, the numbers of the operations that it waits for.
 pub fn begun_text(alloc: Global, plan: &Plan) -> Result<Vec<u8>, NoMemory>
     ensures { IfOk result (λ text. text.items ≡ begun_text plan.now) }
 {
@@ -46,7 +48,9 @@ fn begun_lines(alloc: Global, plan: &Plan) -> Result<Vec<u8>, AllocError>
 {
     let mut text = Vec::new(alloc);
     for op in 0..plan.ops().len() as u32 {
-        push_begun(alloc, &mut text, plan, op)?;
+        if is_listed(plan, op) {
+            push_begun(alloc, &mut text, plan, op)?;
+        }
     }
     push_plan(&mut text, plan)?;
     Ok(text)
@@ -55,62 +59,22 @@ fn begun_lines(alloc: Global, plan: &Plan) -> Result<Vec<u8>, AllocError>
 /// Appends the line of an operation.
 fn push_operation(text: &mut Vec<u8>, plan: &Plan, op: u32) -> Result<(), AllocError>
     requires { op < length plan.now.ops }
-    ensures { OnOk result (text.new.items ≡ text.old.items ++ operation_line plan.now.arrays op (operation_at plan.now.ops op)) }
+    ensures { OnOk result (text.new.items ≡ text.old.items ++ operation_line plan.now op) }
 {
     push_fields(text, plan, op)?;
     text.extend_from_slice(b"\n")
 }
 
-/// Appends the line of an operation that also says what it reads.
+/// Appends the line of an operation that also says what it waits for.
 fn push_begun(alloc: Global, text: &mut Vec<u8>, plan: &Plan, op: u32) -> Result<(), AllocError>
     requires { op < length plan.now.ops }
-    ensures { OnOk result (text.new.items
-        ≡ text.old.items ++ begun_line plan.now.arrays op (operation_at plan.now.ops op)) }
+    ensures { OnOk result (text.new.items ≡ text.old.items ++ begun_line plan.now op) }
 {
     push_fields(text, plan, op)?;
     text.extend_from_slice(b" reads=")?;
-    let sources = sources_of(alloc, plan, op)?;
-    push_numbers(text, &sources)?;
+    let numbers = source_numbers(alloc, plan, op)?;
+    push_numbers(text, &numbers)?;
     text.extend_from_slice(b"\n")
-}
-
-/// The operations that make the arrays which an operation reads, in their order.
-fn sources_of(alloc: Global, plan: &Plan, op: u32) -> Result<Vec<u32>, AllocError>
-    requires { op < length plan.now.ops }
-    ensures { IfOk result (λ sources. sources.items
-        ≡ makers_read plan.now.arrays op (operation_at plan.now.ops op).op) }
-{
-    let mut sources = Vec::new(alloc);
-    for other in 0..op {
-        if reads_from(plan, op, other) {
-            sources.push(other)?;
-        }
-    }
-    Ok(sources)
-}
-
-/// Whether an operation reads an array that the other makes.
-fn reads_from(plan: &Plan, op: u32, other: u32) -> bool
-    requires { op < length plan.now.ops }
-    ensures { result ≡ reads_from plan.now.arrays (operation_at plan.now.ops op).op other }
-{
-    let reads = plan.operation(op).op.reads();
-    for array in reads.as_slice() {
-        if is_made_by(plan.array(*array).maker, other) {
-            return true;
-        }
-    }
-    false
-}
-
-/// Whether the maker of an array is this operation.
-fn is_made_by(maker: Option<u32>, op: u32) -> bool
-    ensures { result ≡ is_made_by maker op }
-{
-    match maker {
-        None => false,
-        Some(made) => made == op,
-    }
 }
 
 /// Appends numbers, with a comma between each two.
@@ -131,10 +95,10 @@ fn push_numbers(text: &mut Vec<u8>, numbers: &[u32]) -> Result<(), AllocError>
 #[tactic(auto, unfolding(crate::specs::Text::operation_fields))]
 fn push_fields(text: &mut Vec<u8>, plan: &Plan, op: u32) -> Result<(), AllocError>
     requires { op < length plan.now.ops }
-    ensures { OnOk result (text.new.items ≡ text.old.items ++ operation_fields plan.now.arrays op (operation_at plan.now.ops op)) }
+    ensures { OnOk result (text.new.items ≡ text.old.items ++ fields_of plan.now op) }
 {
     let planned = plan.operation(op);
-    push_field(text, "op ", u64::from(op))?;
+    push_field(text, "op ", u64::from(listed_number(plan, op)))?;
     push_kind(text, &planned.op)?;
     push_field(text, " node=", u64::from(planned.node))?;
     push_field(text, " tasks=", u64::from(tasks(plan, op)))?;
@@ -147,7 +111,7 @@ fn push_fields(text: &mut Vec<u8>, plan: &Plan, op: u32) -> Result<(), AllocErro
 fn push_plan(text: &mut Vec<u8>, plan: &Plan) -> Result<(), AllocError>
     ensures { OnOk result (text.new.items ≡ text.old.items ++ plan_line plan.now) }
 {
-    push_field(text, "plan ops=", plan.ops().len() as u64)?;
+    push_field(text, "plan ops=", listed_count(plan))?;
     push_field(text, " tasks=", task_count(plan))?;
     push_field(text, " cells=", cell_count(plan))?;
     push_field(text, " peak=", peak(plan))?;

@@ -1,10 +1,9 @@
 -- The values of a plan where two environments agree on its inputs.
-use Rattle.std.proofs.Common.{◌≡◌, ◌⊎◌, inl, inr, ℕ, zero, suc, ◌<◌, ℤ, List, length, All, Option, Some, None, refl, sym, ◌∙◌, subst, arith}
+use Rattle.std.proofs.Common.{◌≡◌, inl, inr, ℕ, zero, suc, ◌<◌, List, length, Option, Some, None, refl, sym, ◌∙◌, subst, arith}
 use Rattle.std.proofs.lemmas.List.Elements.{All-contains}
 use Rattle.cu_shape.specs.Index.{IsInside}
 use Rattle.cu_grid.proofs.Parting.{in_array}
 use Rattle.cu_op.specs.declared.cells.Cell.{Cell}
-use Rattle.cu_op.specs.declared.operation.Op.{Op}
 use Rattle.cu_op.specs.Arrays.{grid_at, layout_at, maker_at}
 use Rattle.cu_op.specs.Cells.{IsChunk, task_grid}
 use Rattle.cu_op.specs.Nested.{IsNested}
@@ -13,8 +12,8 @@ use Rattle.cu_op.specs.PlanView.{PlanView}
 use Rattle.cu_op.specs.Schedule.{op_of, cell_value}
 use Rattle.cu_op.specs.Sound.{Sound}
 use Rattle.cu_op.specs.Elements.{Elements}
-use Rattle.cu_op.specs.Value.{plan_value, ReadsAt}
-use Rattle.cu_op.proofs.Operations.{Fit, nested_writes, reads_inside}
+use Rattle.cu_op.specs.Value.{plan_value}
+use Rattle.cu_op.proofs.Operations.{nested_writes, reads_inside}
 use Rattle.cu_op.proofs.Plans.{grid_ok}
 use Rattle.cu_op.proofs.Spellings.{spelled_alike}
 use Rattle.cu_op.proofs.TaskCells.{fit_of}

@@ -14,6 +14,7 @@ use Rattle.cu_zarr.specs.Key.{separated, coordinates, chunk_key_of, metadata_key
 use Rattle.cu_op.specs.declared.cells.Cell.{Cell}
 use Rattle.cu_op.specs.declared.layout.ArrayInfo.{ArrayInfo}
 use Rattle.cu_op.specs.Arrays.{array_at, maker_at}
+use Rattle.cu_op.specs.Names.{HasCells}
 use Rattle.cu_op.specs.Schedule.{key_of}
 use Rattle.cu_op.specs.Sound.{Sound, IsCell}
 use Rattle.cu_run_law.specs.Names.{HasPlanNames}
@@ -81,6 +82,10 @@ module _ (r : PlanRun) (name recorded metadata : List ℕ) (sound : Sound r.plan
       from (suc zero) l = inr (refl, at 1 (metadata_key_of name) refl)
       from (suc (suc n)) l = absurd (omega arith)
 
+  -- the array of a piece is made and stored
+  has_cells : (c : Cell) → IsPiece r (Chunk c) → HasCells r.plan.arrays c.array
+  has_cells c piece = record { within = piece.within; made = piece.made; stored = piece.stored }
+
   -- a chunk of the array with the name, and of another
   of_name : (c : Cell) → (array_at r.plan.arrays c.array).prefix ≡ name → IsKeyOf name (key_of r.plan.arrays c)
   of_name c e = let k = chunk_of_name name c.coord (array_at r.plan.arrays c.array).layout.encoding in (k.0, key_is c r.plan.arrays name e ∙ k.1)
@@ -102,7 +107,7 @@ module _ (r : PlanRun) (name recorded metadata : List ℕ) (sound : Sound r.plan
         | inr is ↦ inl (codes "zarr.json", is.1)
       ]
   owner (Chunk c) piece =
-      elim (names.made c.array piece.within piece.made) [
+      elim (names.made c.array (has_cells c piece)) [
         | inl is ↦ inl (of_name c is)
         | inr other ↦ inr (of_ours c other.0 other.2)
       ]
@@ -116,7 +121,7 @@ module _ (r : PlanRun) (name recorded metadata : List ℕ) (sound : Sound r.plan
 
   record_apart : (c : Cell) → IsCell r.plan.arrays c.array c.coord → record_key_of name ≢ key_of r.plan.arrays c
   record_apart c piece e =
-      elim (names.made c.array piece.within piece.made) [
+      elim (names.made c.array (has_cells c piece)) [
         | inl is ↦ not_ours name (key_of r.plan.arrays c) names.named (of_name c is) (record_ours.0, sym e ∙ record_ours.1)
         | inr other ↦
             let coords = coordinates (array_at r.plan.arrays c.array).layout.encoding c.coord in
@@ -128,11 +133,11 @@ module _ (r : PlanRun) (name recorded metadata : List ℕ) (sound : Sound r.plan
 
   metadata_apart : (c : Cell) → IsCell r.plan.arrays c.array c.coord → metadata_key_of name ≢ key_of r.plan.arrays c
   metadata_apart c piece e =
-      elim (names.made c.array piece.within piece.made) [
+      elim (names.made c.array (has_cells c piece)) [
         | inl is ↦
             let coords = coordinates (array_at r.plan.arrays c.array).layout.encoding c.coord in
             let whole : name ++ 47 ∷ codes "zarr.json" ≡ name ++ 47 ∷ coords = e ∙ key_is c r.plan.arrays name is ∙ append_assoc name (codes "/") coords in
-            let plain : coords ≡ codes "c" ++ separated 47 c.coord = ap (λ w. coordinates w c.coord) (names.encodings c.array piece.within piece.made) in
+            let plain : coords ≡ codes "c" ++ separated 47 c.coord = ap (λ w. coordinates w c.coord) (names.encodings c.array (has_cells c piece)) in
             other_head _ (separated 47 c.coord) (tail_same 47 47 _ _ (append_cancel_left name _ _ whole) ∙ plain)
         | inr other ↦ not_ours name (metadata_key_of name) names.named metadata_own (let o = of_ours c other.0 other.2 in (o.0, e ∙ o.1))
       ]

@@ -29,7 +29,7 @@ pub data Piece : Type 0 where
 abbrev pub text_at : PlanRun → ℕ → Write
 text_at r n = slice_index_or r.texts n ([], [])
 
--- the pieces: each text, and each chunk of each array that the plan makes
+-- the pieces: each text, and each chunk of each array that the plan makes and stores
 abbrev pub IsPiece : PlanRun → Piece → Type 0
 IsPiece r (Text n) = n < length r.texts
 IsPiece r (Chunk c) = IsCell r.plan.arrays c.array c.coord

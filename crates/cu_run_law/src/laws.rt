@@ -1,17 +1,17 @@
 ghost use Rattle.cu_name.specs.Name.{IsArrayName};
-ghost use Rattle.std.specs.Prelude.{◌≡◌, ◌≢◌, ◌+◌, ◌++◌, ◌∷◌, ◌<◌, ℕ, List, Contains, Some, None, length};
+ghost use Rattle.std.specs.Prelude.{◌≡◌, ◌≢◌, ◌+◌, ◌++◌, ◌∷◌, ◌<◌, ℕ, false, List, Contains, Some, None, length};
 ghost use Rattle.cu_shape.specs.Index.{IsInside};
 ghost use Rattle.cu_store.specs.Held.{Contents};
 ghost use Rattle.cu_store.specs.Steps.{Shown, Steps};
 ghost use Rattle.cu_op.specs.declared.cells.Cell.{Cell};
-ghost use Rattle.cu_op.specs.Arrays.{array_at, grid_at, maker_at};
+ghost use Rattle.cu_op.specs.Arrays.{array_at, grid_at, is_inlined, maker_at};
 ghost use Rattle.cu_op.specs.Cells.{tasks_of, IsChunk};
 ghost use Rattle.cu_op.specs.PlanView.{PlanView};
 ghost use Rattle.cu_op.specs.Schedule.{op_of, cell_value, IsReady};
 ghost use Rattle.cu_op.specs.Sound.{Sound};
 ghost use Rattle.cu_op.specs.Elements.{Elements};
 ghost use Rattle.cu_op.specs.Value.{plan_value, stored_inputs};
-ghost use Rattle.cu_op.specs.Walks.{read_chunks};
+ghost use Rattle.cu_op.specs.Within.{fetched_chunks, with_inlined};
 ghost use Rattle.cu_run_law.specs.Left.{IsQuiet, IsLeft, AgreeOnInputs, Begun, RunChange, AreDone};
 ghost use Rattle.cu_run_law.specs.Names.{HasPlanNames};
 ghost use Rattle.cu_zarr.specs.Key.{metadata_key_of};
@@ -43,12 +43,12 @@ pub fn begun_law()
         → Steps (RunChange r first) l m old new }
 {}
 
-/// A task is ready where each made chunk among those that it reads is held; so it is where the tasks of the operations before its own
+/// A task is ready where each made chunk among those that it fetches is held; so it is where the tasks of the operations before its own
 /// are done.
 pub fn task_law()
     ensures ready { (r : PlanRun) (env : Elements) (shown : Shown) (k task : ℕ) (left : IsLeft r env shown) → k < length r.plan.ops
         → task < tasks_of r.plan.arrays (op_of r.plan k)
-        → ((c : Cell) → Contains (read_chunks r.plan.arrays (op_of r.plan k) task) c → maker_at r.plan.arrays c.array ≢ None → HoldsPiece r env (Chunk c) shown)
+        → ((c : Cell) → Contains (fetched_chunks r.plan k task) c → maker_at r.plan.arrays c.array ≢ None → HoldsPiece r env (Chunk c) shown)
         → IsReady r.plan k task env left.held }
     ensures after { (r : PlanRun) (env : Elements) (shown : Shown) (k task before : ℕ) (left : IsLeft r env shown) → k < length r.plan.ops
         → task < tasks_of r.plan.arrays (op_of r.plan k) → AreDone r env k before shown → IsReady r.plan k task env left.held }
@@ -56,14 +56,18 @@ pub fn task_law()
     range_law();
 }
 
-/// Where the texts are held and all tasks are done each piece is held; and the stored elements of an array whose chunks are held are
-/// its values.
+/// Where the texts are held and all tasks are done each piece is held; and then the stored elements of a made array that is stored are its
+/// values, and what is made of them where it is read is the values too. The array that a plan is made for is stored.
 pub fn complete_law()
     ensures done { (r : PlanRun) (env : Elements) (shown : Shown) → Sound r.plan → ((n : ℕ) → n < length r.texts → HoldsPiece r env (Text n) shown)
         → AreDone r env (length r.plan.ops) 0 shown → IsComplete r env shown }
     ensures elements { (r : PlanRun) (env : Elements) (shown : Shown) (a : ℕ) (idx : List ℕ) (left : IsLeft r env shown) → IsComplete r env shown
-        → a < length r.plan.arrays → maker_at r.plan.arrays a ≢ None → IsInside (grid_at r.plan.arrays a).shape idx
+        → a < length r.plan.arrays → maker_at r.plan.arrays a ≢ None → is_inlined r.plan.arrays a ≡ false → IsInside (grid_at r.plan.arrays a).shape idx
         → stored_inputs r.plan.arrays left.held a idx ≡ plan_value r.plan env a idx }
+    ensures made { (r : PlanRun) (env : Elements) (shown : Shown) (a : ℕ) (idx : List ℕ) (left : IsLeft r env shown) → IsComplete r env shown
+        → a < length r.plan.arrays → maker_at r.plan.arrays a ≢ None → IsInside (grid_at r.plan.arrays a).shape idx
+        → with_inlined r.plan (stored_inputs r.plan.arrays left.held) a idx ≡ plan_value r.plan env a idx }
+    ensures out { (p : PlanView) → Sound p → is_inlined p.arrays p.out ≡ false }
 {
     range_law();
 }

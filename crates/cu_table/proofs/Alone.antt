@@ -8,7 +8,7 @@ use Rattle.cu_table.specs.Machine.{Machine, state_at, IsDone, AllDone, NoneWaits
 use Rattle.cu_table.proofs.Copies.{copies_of}
 use Rattle.cu_table.proofs.Keeping.{Kept}
 use Rattle.cu_table.proofs.Changing.{made_task}
-use Rattle.cu_table.proofs.Inputs.{source_before, maker_source}
+use Rattle.cu_table.proofs.Inputs.{maker_earlier}
 
 module _ (p : PlanView) (sound : Sound p) (retries : ℕ) (m : Machine) (kept : Kept p retries m) (none : m.copies ≡ []) (waits : NoneWaits p m) where
   none_run : (op task : ℕ) → IsTask p op task → (state_at p m op task).copies ≡ 0
@@ -22,7 +22,7 @@ module _ (p : PlanView) (sound : Sound p) (retries : ℕ) (m : Machine) (kept : 
         | inr undone ↦
             absurd (waits op task is
             (λ k t makes. done_below n k t (made_task p k t op task makes)
-            (let b = source_before p sound op k is.operation (maker_source p sound k t op task is makes) in omega (arith, b, below)))
+            (let b = maker_earlier p sound k t op task is makes in omega (arith, b, below)))
             (undone, none_run op task is))
       ]
 

@@ -23,6 +23,7 @@ array maker = record {
   prefix = codes "a";
   layout = record { dtype = Int32; grid = record { shape = 6 ∷ []; chunk = 4 ∷ [] }; encoding = Plain Slash; endian = Little; fill = pos 0 };
   maker = maker;
+  inlined = false;
 }
 
 abbrev twice : ℕ → ℕ → Planned

@@ -10,6 +10,7 @@ pub mod Lining
 pub mod Changing
 pub mod Queues
 pub mod Views
+pub mod Needs
 pub mod Inputs
 pub mod Wakes
 pub mod Lines

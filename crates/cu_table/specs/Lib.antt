@@ -4,3 +4,4 @@ pub mod Step
 pub mod Table
 pub mod Own
 pub mod Queue
+pub mod Sources

@@ -4,7 +4,7 @@ use Rattle.cu_history.specs.declared.entry.Entry.{Entry}
 use Rattle.cu_op.specs.declared.cells.Cell.{Cell}
 use Rattle.cu_op.specs.InputCells.{input_cells}
 use Rattle.cu_op.specs.PlanView.{PlanView}
-use Rattle.cu_op.specs.Schedule.{op_of, WritesCell}
+use Rattle.cu_op.specs.Schedule.{WritesCell}
 use Rattle.cu_table.specs.declared.state.TaskState.{TaskState}
 use Rattle.cu_table.specs.declared.state.RunningCopy.{RunningCopy}
 use Rattle.cu_table.specs.declared.state.Ending.{Ending}
@@ -48,7 +48,7 @@ IsSingleTask p m op task = IsSingleState (state_at p m op task)
 
 -- task number t of operation k makes an input cell of task number `task` of operation op
 abbrev pub MakesInput : PlanView → ℕ → ℕ → ℕ → ℕ → Type 0
-MakesInput p k t op task = (c : Cell) × Contains (input_cells p.arrays (op_of p op) task) c × WritesCell p k t c.array c.coord
+MakesInput p k t op task = (c : Cell) × Contains (input_cells p op task) c × WritesCell p k t c.array c.coord
 
 -- A task is ready where each task that makes one of its input cells is done.
 abbrev pub AreInputsDone : PlanView → Machine → ℕ → ℕ → Type 0

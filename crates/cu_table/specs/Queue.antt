@@ -1,12 +1,8 @@
 -- What a table keeps beside the state of its machine: how many tasks aren't done, which ready tasks wait, and what each other
 -- waiting task waits for. This project's own rules.
-use Rattle.std.specs.Prelude.{◌≡◌, ◌≢◌, ◌⊎◌, ℕ, zero, suc, ◌+◌, ◌*◌, ◌<◌, ◌≤◌, ◌==◌, Bool, true, false, List, [], ◌∷◌, ◌++◌, length, map, take, drop, set, count_by, sum_by, All, slice_index_or, Option, Some, None, Contains}
+use Rattle.std.specs.Prelude.{◌≡◌, ◌≢◌, ◌⊎◌, ℕ, zero, suc, ◌+◌, ◌*◌, ◌<◌, ◌≤◌, ◌==◌, Bool, true, false, List, [], ◌∷◌, ◌++◌, length, map, take, drop, set, count_by, sum_by, All, slice_index_or, Option, None}
 use Rattle.std.specs.List.{range_with_len}
-use Rattle.cu_op.specs.declared.operation.Op.{Op}
-use Rattle.cu_op.specs.declared.operation.Op.TheVariants.{Pull}
-use Rattle.cu_op.specs.Arrays.{maker_at}
 use Rattle.cu_op.specs.Cells.{tasks_of}
-use Rattle.cu_op.specs.Operation.{reads_of}
 use Rattle.cu_op.specs.PlanView.{PlanView}
 use Rattle.cu_op.specs.Schedule.{op_of, WritesCell}
 use Rattle.cu_op.specs.declared.cells.Cell.{Cell}
@@ -89,19 +85,6 @@ watched q x tasks = record { size = q.size; waiting = q.waiting; watching = set 
 -- how many tasks of an operation aren't done
 abbrev pub undone_of : PlanView → Machine → ℕ → ℕ
 undone_of p m k = undone_among (take (tasks_of p.arrays (op_of p k)) (drop (first_task p k) m.tasks))
-
--- a view, which waits for whole arrays
-abbrev pub IsPullOp : Op → Type 0
-IsPullOp (Pull pull ins out) = Unit {0}
-IsPullOp op = ⊥
-
--- the operation makes one of the arrays that operation `op` reads
-abbrev pub IsSourceOf : PlanView → ℕ → ℕ → Type 0
-IsSourceOf p op source = (a : ℕ) × Contains (reads_of (op_of p op)) a × (maker_at p.arrays a ≡ Some source)
-
--- each of those has no task that isn't done
-abbrev pub AreSourcesDone : PlanView → List ℕ → ℕ → Type 0
-AreSourcesDone p undone op = (source : ℕ) → IsSourceOf p op source → slice_index_or undone source 0 ≡ 0
 
 -- task t of operation k isn't done and makes an input cell of the task
 pub record WaitsForTask (p : PlanView) (m : Machine) (x op task : ℕ) : Type 0 where

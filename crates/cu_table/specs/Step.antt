@@ -7,7 +7,6 @@ use Rattle.cu_history.specs.declared.entry.EventKind.{EventKind}
 use Rattle.cu_history.specs.declared.entry.EventKind.TheVariants.{Start, Done, Failed, Halt, Late}
 use Rattle.cu_op.specs.PlanView.{PlanView}
 use Rattle.cu_op.specs.Projection.{projection}
-use Rattle.cu_op.specs.Schedule.{op_of}
 use Rattle.cu_table.specs.declared.state.Ending.{Ending}
 use Rattle.cu_table.specs.declared.state.Ending.TheVariants.{Broken, Halted}
 use Rattle.cu_table.specs.Numbers.{IsTask, task_count}
@@ -29,7 +28,7 @@ pub record IsStart (s : Settings) (m : Machine) (e : Entry) : Type 0 where
   pub going : m.ended ≡ None
   pub free : RunsNothing m e.worker
   pub task : IsTask s.plan e.op e.task
-  pub room : e.room ≡ projection s.plan.arrays s.plan.reserved (op_of s.plan e.op)
+  pub room : e.room ≡ projection s.plan e.op
   pub can : CanStart s m e.op e.task
 
 -- when the end of a copy counts: the machine hasn't ended and the task isn't done

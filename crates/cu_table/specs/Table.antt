@@ -7,7 +7,6 @@ use Rattle.cu_history.specs.declared.entry.EventKind.{EventKind}
 use Rattle.cu_history.specs.declared.entry.EventKind.TheVariants.{Start, Done, Failed, Halt, Late}
 use Rattle.cu_op.specs.PlanView.{PlanView}
 use Rattle.cu_op.specs.Projection.{projection}
-use Rattle.cu_op.specs.Schedule.{op_of}
 use Rattle.cu_table.specs.declared.claim.Claim.{Claim}
 use Rattle.cu_table.specs.declared.claim.Claim.TheVariants as claim
 use Rattle.cu_table.specs.declared.state.Ending.TheVariants.{Broken, Halted}
@@ -36,7 +35,7 @@ pub record Goes (old new : TableView) (e : Entry) : Type 0 where
 -- ---- claims
 
 abbrev pub start_event : PlanView → ℕ → ℕ → ℕ → Entry
-start_event p worker op task = record { kind = Start; worker = worker; op = op; task = task; room = projection p.arrays p.reserved (op_of p op) }
+start_event p worker op task = record { kind = Start; worker = worker; op = op; task = task; room = projection p op }
 
 -- nothing can be started: no ready task waits, and no second copy may begin
 abbrev pub NoneStarts : Settings → Machine → Type 0

@@ -10,6 +10,7 @@ mod open;
 mod queue;
 mod ready;
 mod records;
+mod sources;
 mod state;
 mod table;
 mod tasks;

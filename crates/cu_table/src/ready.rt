@@ -1,42 +1,17 @@
 //! What keeps a task waiting.
-ghost use Rattle.std.specs.Prelude.{◌≡◌, ◌≢◌, ◌<◌, IsTrue, ◌↔◌, length, MatchOption, slice_index_or};
+ghost use Rattle.std.specs.Prelude.{◌≡◌, false, length, MatchOption};
+ghost use Rattle.cu_op.specs.Arrays.{is_inlined};
 ghost use Rattle.cu_op.specs.Cells.{IsChunk};
 ghost use Rattle.cu_table.specs.declared.state.TaskId.{TaskId as Id};
 ghost use Rattle.cu_table.specs.Numbers.{IsTask, task_count, task_number};
 ghost use Rattle.cu_table.specs.Machine.{AreInputsDone};
-ghost use Rattle.cu_table.specs.Queue.{AreCounts, of_tasks, Blocks, WaitsForTask, IsCellDone, IsUndoneMaker, HasListPlace, Settles, IsPullOp, IsSourceOf, AreSourcesDone, IsOver, IsLined, IsWoken};
+ghost use Rattle.cu_table.specs.Queue.{AreCounts, of_tasks, Blocks, WaitsForTask, IsCellDone, IsUndoneMaker, HasListPlace, Settles, IsOver, IsLined, IsWoken};
 
 use crate::queue::Queue;
+use crate::sources::{Sources, sources_of};
 use crate::state::{TaskId, TaskState};
 use crate::tasks::Tasks;
-use cu_op::{Cell, Op, Plan, inputs, maker};
-
-/// An operation that makes what an operation reads and not all of whose tasks are done; none where there is none.
-fn undone_source(plan: &Plan, undone: &[usize], op: u32) -> Option<u32>
-    requires operation { op < length plan.now.ops }
-    requires counts { length undone.now ≡ length plan.now.ops }
-    ensures { MatchOption result (AreSourcesDone plan.now undone.now op) (λ k. IsSourceOf plan.now op k × (slice_index_or undone.now k 0 ≢ 0)) }
-{
-    let reads = plan.operation(op).op.reads();
-    for array in reads.as_slice() {
-        if let Some(source) = plan.array(*array).maker {
-            if undone[source as usize] != 0 {
-                return Some(source);
-            }
-        }
-    }
-    None
-}
-
-/// Whether an operation is a view, which waits for whole arrays.
-fn is_view(op: &Op) -> bool
-    ensures { IsTrue result ↔ IsPullOp op.now }
-{
-    match op {
-        Op::Pull { .. } => true,
-        _ => false,
-    }
-}
+use cu_op::{Cell, PlanTask, inputs, maker};
 
 /// The last task that isn't done and makes an input cell of a task, by its number; none where all of them are done. The last,
 /// since tasks mostly end in their order: the others are then done before it.
@@ -55,9 +30,10 @@ fn undone_input(tasks: &Tasks, states: &[TaskState], op: u32, task: u32) -> Opti
     last
 }
 
-/// The task that makes a chunk, by its number, where it isn't done.
+/// The task that makes a stored chunk, by its number, where it isn't done.
 fn undone_maker(tasks: &Tasks, states: &[TaskState], cell: &Cell) -> Option<usize>
     requires chunk { IsChunk tasks.now.arrays cell.now }
+    requires stored { is_inlined tasks.now.arrays cell.now.array ≡ false }
     requires states { length states.now ≡ task_count tasks.now }
     ensures { MatchOption result (IsCellDone tasks.now (of_tasks states.now) cell.now) (λ x. IsUndoneMaker tasks.now (of_tasks states.now) cell.now x) }
 {
@@ -81,13 +57,10 @@ fn blocker(tasks: &Tasks, states: &[TaskState], undone: &[usize], id: TaskId) ->
     requires counts { AreCounts tasks.now (of_tasks states.now) undone.now }
     ensures { MatchOption result (AreInputsDone tasks.now (of_tasks states.now) id.op id.task) (λ x. Blocks tasks.now (of_tasks states.now) x id.op id.task) }
 {
-    let plan = tasks.plan();
-    match undone_source(plan, undone, id.op) {
-        None => None,
-        Some(source) if is_view(&plan.operation(id.op).op) => {
-            Some(tasks.count() + source as usize)
-        }
-        Some(_) => undone_input(tasks, states, id.op, id.task),
+    match sources_of(&PlanTask::make(tasks.plan(), id.op, id.task), undone) {
+        Sources::Complete => None,
+        Sources::Awaited(source) => Some(tasks.count() + source as usize),
+        Sources::Partial => undone_input(tasks, states, id.op, id.task),
     }
 }
 

@@ -1,7 +1,7 @@
 -- What a task may put and ask for.
 use Rattle.std.proofs.Common.{◌≡◌, ℕ, ◌<◌, List, length, Contains, Option, Some, refl, sym, subst}
 use Rattle.cu_store.specs.Steps.{Within}
-use Rattle.cu_op.specs.Cells.{tasks_of}
+use Rattle.cu_op.specs.Cells.{regions_of}
 use Rattle.cu_op.specs.PlanView.{PlanView}
 use Rattle.cu_op.specs.Schedule.{op_of, key_of}
 use Rattle.cu_op.specs.Sound.{Sound}
@@ -12,7 +12,7 @@ use Rattle.cu_task.specs.Asks.{MayReadRegion}
 use Rattle.cu_task.proofs.TaskSteps.{written_at}
 
 -- a chunk of an array that a task writes may be asked for where the array's chunks in its region may
-pub got_cell : (p : PlanView) (sound : Sound p) (k task a : ℕ) (K : List ℕ → Type 0) → k < length p.ops → task < tasks_of p.arrays (op_of p k) → (c : Cell) → Contains (written_chunks p.arrays (op_of p k) task) c
+pub got_cell : (p : PlanView) (sound : Sound p) (k task a : ℕ) (K : List ℕ → Type 0) → k < length p.ops → task < regions_of p.arrays (op_of p k) → (c : Cell) → Contains (written_chunks p.arrays (op_of p k) task) c
     → c.array ≡ a → MayReadRegion p k task a K → K (key_of p.arrays c)
 got_cell p sound k task a K op below c there same region =
     let meets = (written_at p sound k task op below c there).1 in

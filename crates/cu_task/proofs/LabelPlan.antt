@@ -5,7 +5,7 @@ use Rattle.cu_num.specs.Dtype.{size_of}
 use Rattle.cu_shape.specs.Index.{product, differences}
 use Rattle.cu_grid.specs.Grid.{IsGrid}
 use Rattle.cu_op.specs.Arrays.{grid_at, type_at, grid_counts}
-use Rattle.cu_op.specs.Cells.{tasks_of, task_lo, task_hi}
+use Rattle.cu_op.specs.Cells.{regions_of, task_lo, task_hi}
 use Rattle.cu_op.specs.Chunks.{walk}
 use Rattle.cu_op.specs.Grouping.{grouped_walk, labels_walk}
 use Rattle.cu_op.specs.Operation.{target_of}
@@ -34,12 +34,12 @@ pub record GroupTask (p : PlanView) (k task : ℕ) (a : LabelFold) : Type 0 wher
   pub labels_grid : IsGrid (grid_at p.arrays a.labels)
   pub made_grid : IsGrid (grid_at p.arrays a.out)
 
-pub group_task : (p : PlanView) (k task : ℕ) (a : LabelFold) → Sound p → op_of p k ≡ fold_by_labels a → k < length p.ops → task < tasks_of p.arrays (op_of p k) → GroupTask p k task a
+pub group_task : (p : PlanView) (k task : ℕ) (a : LabelFold) → Sound p → op_of p k ≡ fold_by_labels a → k < length p.ops → task < regions_of p.arrays (op_of p k) → GroupTask p k task a
 group_task p k task a s is below h =
     let fit = subst (Fit p.arrays k) is (fit_of p s k below) in
     record {
       fit = fit;
-      in_grid = subst (λ (o : Op). task < tasks_of p.arrays o) is h;
+      in_grid = subst (λ (o : Op). task < regions_of p.arrays o) is h;
       source_grid = grid_ok p a.source s (fit.0 0 0 (omega arith)).0;
       labels_grid = grid_ok p a.labels s (fit.0 1 0 (omega arith)).0;
       made_grid = grid_ok p a.out s (fit.1 0 0 (omega arith)).0;

@@ -1,10 +1,13 @@
 pub mod Allowed
 pub mod ChunkRegions
+pub mod CopyTask
 pub mod Counting
 pub mod InputReads
+pub mod Inside
 pub mod JobViews
 pub mod LabelPlan
 pub mod LabelTask
+pub mod MadeParts
 pub mod MapTask
 pub mod MatrixBlocks
 pub mod MatrixTask
@@ -18,6 +21,7 @@ pub mod ReductionTask
 pub mod ScanTask
 pub mod SearchTask
 pub mod Serving
+pub mod Standing
 pub mod SumTasks
 pub mod TaskKinds
 pub mod TaskRegions

@@ -3,7 +3,7 @@ use Rattle.std.proofs.Common.{◌≡◌, ◌≢◌, ◌⊎◌, inl, inr, ℕ, �
 use Rattle.cu_num.specs.Dtype.{InRange}
 use Rattle.cu_shape.specs.Index.{IsInside, quotients}
 use Rattle.cu_shape.proofs.Places.{inside-length}
-use Rattle.cu_grid.proofs.Parting.{has_coordinate, lies_within, inner_inside}
+use Rattle.cu_grid.proofs.Parting.{has_coordinate, in_array, inner_inside, lies_within, only_chunk}
 use Rattle.cu_store.specs.Chunks.{Keeps, Allows}
 use Rattle.cu_store.specs.Held.{Contents, Holds}
 use Rattle.cu_store.specs.Steps.{Shown}
@@ -15,25 +15,26 @@ use Rattle.cu_zarr.specs.Stored.{element_in}
 use Rattle.cu_zarr.proofs.Spelled.{spelled_element, length-spelled}
 use Rattle.cu_op.specs.Arrays.{grid_at, layout_at, type_at, maker_at, chunk_room}
 use Rattle.cu_op.specs.Chunks.{cell}
-use Rattle.cu_op.specs.Cells.{tasks_of}
+use Rattle.cu_op.specs.Cells.{regions_of, tasks_of, IsChunk}
 use Rattle.cu_op.specs.PlanView.{PlanView}
 use Rattle.cu_op.specs.Schedule.{op_of, key_of, cell_value, IsReady}
 use Rattle.cu_op.specs.Sound.{Sound, IsCell}
 use Rattle.cu_op.specs.Elements.{Elements}
 use Rattle.cu_op.specs.Value.{plan_value, stored_inputs, HasTypes}
-use Rattle.cu_op.specs.Walks.{read_chunks, written_chunks}
+use Rattle.cu_op.specs.Walks.{written_chunks}
+use Rattle.cu_op.specs.Within.{fetched_chunks}
 use Rattle.cu_op.specs.Layout.{IsArray}
 use Rattle.cu_op.specs.declared.cells.Cell.{Cell}
 use Rattle.cu_op.specs.declared.layout.ArrayInfo.{ArrayInfo}
-use Rattle.cu_op.proofs.Plans.{grid_ok}
+use Rattle.cu_op.proofs.Fetched.{fetched_ready, fetched_stored}
+use Rattle.cu_op.proofs.Plans.{grid_ok, own_region}
 use Rattle.cu_op.proofs.Spellings.{defined_at}
-use Rattle.cu_op.proofs.TaskCells.{fit_of, reads_lie_in, read_array, written_cell}
+use Rattle.cu_op.proofs.TaskCells.{written_cell}
 use Rattle.cu_op.proofs.Values.{value_solves}
 use Rattle.cu_region.specs.Steady.{HoldsLength}
 use Rattle.cu_task.specs.Asks.{MayReadTask, MayReadWritten}
 use Rattle.cu_task.specs.Serving.{PromisesValues, ServesPlan, HasSeenInputs, HasSeenOutputs, IsBadOfInput}
 use Rattle.cu_task.specs.Task.{IsTaskReady, TaskChange, IsTaskFault}
-use Rattle.cu_task.proofs.TaskSteps.{kept_cells}
 
 -- ---- options and truth values
 
@@ -114,13 +115,16 @@ module _ (p : PlanView) (sound : Sound p) where
         ]
 
     module _ (k task : ℕ) (operation : k < length p.ops) (number : task < tasks_of p.arrays (op_of p k)) where
-      chunk_of : (c : Cell) → Contains (read_chunks p.arrays (op_of p k) task) c → (c.array < length p.arrays)
-      chunk_of c listed = (read_array p sound k (op_of p k) (fit_of p sound k operation) task c number listed).1.0
+      region : task < regions_of p.arrays (op_of p k)
+      region = own_region p.arrays (op_of p k) task number
 
-      cell_of : (c : Cell) → Contains (read_chunks p.arrays (op_of p k) task) c → maker_at p.arrays c.array ≢ None → IsCell p.arrays c.array c.coord
+      chunk_of : (c : Cell) → Contains (fetched_chunks p k task) c → IsChunk p.arrays c
+      chunk_of c listed = (fetched_stored p sound k task c operation region listed).0
+
+      cell_of : (c : Cell) → Contains (fetched_chunks p k task) c → maker_at p.arrays c.array ≢ None → IsCell p.arrays c.array c.coord
       cell_of c listed made =
-          let chunk = (read_array p sound k (op_of p k) (fit_of p sound k operation) task c number listed).1 in
-          record { within = chunk.0; made = made; coordinate = chunk.1 }
+          let (chunk, stored) = fetched_stored p sound k task c operation region listed in
+          record { within = chunk.0; made = made; stored = stored; coordinate = chunk.1 }
 
       cell_written : (c : Cell) → Contains (written_chunks p.arrays (op_of p k) task) c → IsCell p.arrays c.array c.coord
       cell_written c listed = written_cell p sound k task c.array c.coord (record { operation = operation; number = number; cell = listed })
@@ -129,15 +133,14 @@ module _ (p : PlanView) (sound : Sound p) where
 
       pub may_read : HasSeenInputs p k task pass.seen → MayReadTask p k task (MayGet yard.specs pass.seen)
       may_read seen key (c, there, is) =
-          let listed = kept_cells p sound k task operation number c there in
-          let chunk = (read_array p sound k (op_of p k) (fit_of p sound k operation) task c number listed).1 in
+          let chunk = chunk_of c there in
           subst (MayGet yard.specs pass.seen) (sym is) (elim (none_or_some (maker_at p.arrays c.array)) [
             | inl given ↦
                 let only = serves.inputs c chunk given in
                 record { served = only.0; known = λ made. absurd (not_both (is_made yard.specs (key_of p.arrays c)) only.1 made) }
             | inr maker ↦
                 let made = not_none (maker_at p.arrays c.array) maker.0 maker.1 in
-                record { served = made_is_served yard.specs (key_of p.arrays c) (serves.cells c (cell_of c listed made)); known = λ again. seen c listed made }
+                record { served = made_is_served yard.specs (key_of p.arrays c) (serves.cells c (cell_of c there made)); known = λ again. seen c there made }
           ])
 
       pub seen_outputs : MayReadWritten p k task (MayGet yard.specs pass.seen) → HasSeenOutputs p k task pass.seen
@@ -161,13 +164,15 @@ module _ (p : PlanView) (sound : Sound p) where
             let value = promised_value pass.promise entries (own_promise promise promised) (fits.entries ∙ told) c made in
             (bytes, sym value ∙ is, if_true (pass.seen key) (pass.promise key) (entries key) saw ∙ is)
 
-        inputs_ready : IsReady p k task env held
-        inputs_ready c idx i a written within reads =
-            let fit = fit_of p sound k operation in
-            let lies = reads_lie_in p sound k (op_of p k) fit task a c idx i number written within reads in
-            let read = cell a (quotients i (grid_at p.arrays a).chunk) in
-            let chunk = (read_array p sound k (op_of p k) fit task read number lies.1).1 in
-            elim (none_or_some (maker_at p.arrays a)) [
+        -- of a chunk that the task reads, each element is its array's value
+        input_value : (c : Cell) (i : List ℕ) → Contains (fetched_chunks p k task) c → IsInside (grid_at p.arrays c.array).shape i → c.coord ≡ quotients i (grid_at p.arrays c.array).chunk
+            → stored_inputs p.arrays held c.array i ≡ plan_value p env c.array i
+        input_value c i listed inside at =
+            let a = c.array in
+            let read = cell c.array (quotients i (grid_at p.arrays c.array).chunk) in
+            let there : Contains (fetched_chunks p k task) (cell c.array (quotients i (grid_at p.arrays c.array).chunk)) = subst (λ (coord : List ℕ). Contains (fetched_chunks p k task) (cell c.array coord)) at listed in
+            let chunk = chunk_of read there in
+            elim (none_or_some (maker_at p.arrays c.array)) [
               | inl given ↦
                   let key = key_of p.arrays read in
                   let only = serves.inputs read chunk given in
@@ -175,9 +180,16 @@ module _ (p : PlanView) (sound : Sound p) where
                   ap (λ (b : Option (List ℕ)). element_in (layout_at p.arrays a) b i) same ∙ sym ((value_solves p env sound).inputs a i given)
               | inr maker ↦
                   let made = not_none (maker_at p.arrays a) maker.0 maker.1 in
-                  let (bytes, value, was) = seen_value read (cell_of read lies.1 made) (seen read lies.1 made) in
-                  value_element ranges env held typed a i bytes chunk.0 lies.0 value was
+                  let (bytes, value, was) = seen_value read (cell_of read there made) (seen read there made) in
+                  value_element ranges env held typed a i bytes chunk.0 inside value was
             ]
+
+        inputs_ready : IsReady p k task env held
+        inputs_ready =
+            fetched_ready p sound k task env held operation region (λ c i listed within.
+            let chunk = chunk_of c listed in
+            let ok = grid_ok p c.array sound chunk.0 in
+            input_value c i listed (in_array (grid_at p.arrays c.array) c.coord i ok chunk.1 within) (only_chunk (grid_at p.arrays c.array) c.coord i ok chunk.1 within))
 
         pub ready_here : IsTaskReady p k task env (shown_by pass)
         ready_here = record {
@@ -189,7 +201,7 @@ module _ (p : PlanView) (sound : Sound p) where
         }
 
         -- a made chunk that it reads has the bytes of a chunk
-        pub of_input : (c : Cell) (got : ℕ) → Contains (read_chunks p.arrays (op_of p k) task) c → got ≢ chunk_room p.arrays c.array → HoldsLength (shown_by pass).held (key_of p.arrays c) got
+        pub of_input : (c : Cell) (got : ℕ) → Contains (fetched_chunks p k task) c → got ≢ chunk_room p.arrays c.array → HoldsLength (shown_by pass).held (key_of p.arrays c) got
             → maker_at p.arrays c.array ≡ None
         of_input c got listed bad length_is =
             elim (none_or_some (maker_at p.arrays c.array)) [
@@ -235,7 +247,7 @@ module _ (p : PlanView) (sound : Sound p) (ranges : HaveRanges) (types : HaveTyp
       by_promise (Some promise) promised NoMemory fault = tt
       by_promise (Some promise) promised (BadChunk key got want) (c, listed, is, size, other, holds) =
           let (entries, told) = told_too yard.promise pass.entries promise fits.told promised in
-          let chunk = (read_array p sound k (op_of p k) (fit_of p sound k operation) task c number listed).1 in
+          let chunk = chunk_of p sound yard pass fits serves k task operation number c listed in
           let here = subst (λ (x : List ℕ). HoldsLength (shown_by pass).held x got) is holds in
           let given = of_input p sound yard pass fits serves k task operation number ranges seen promise entries promised told (types p.arrays entries sound.arrays) c got listed
           (λ e. other (e ∙ sym size)) here in

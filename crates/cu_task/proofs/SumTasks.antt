@@ -9,7 +9,7 @@ use Rattle.cu_scan.specs.Scanned.{IsCarriedInto}
 use Rattle.cu_scan.proofs.Told.{IsOneGroup}
 use Rattle.cu_op.specs.Along.{group_walk, carried_walks}
 use Rattle.cu_op.specs.Arrays.{grid_at, type_at, grid_counts}
-use Rattle.cu_op.specs.Cells.{tasks_of, task_lo, task_hi}
+use Rattle.cu_op.specs.Cells.{regions_of, task_lo, task_hi}
 use Rattle.cu_op.specs.Chunks.{walk}
 use Rattle.cu_op.specs.Kind.Carry.{CarryFits}
 use Rattle.cu_op.specs.Kind.Scan.{ScanFits}
@@ -127,7 +127,7 @@ module _ (t : TaskView) (sound : Sound t.plan) (axis out : ℕ) (m : CarryParts 
   carry_grid = grid_ok t.plan out sound (carry_fit.1 0 0 (omega arith)).0
 
   carry_in : t.number < product (grid_counts (grid_at t.plan.arrays out))
-  carry_in = subst (λ (o : Op). t.number < tasks_of t.plan.arrays o) m.is t.within
+  carry_in = subst (λ (o : Op). t.number < regions_of t.plan.arrays o) m.is t.within
 
   pub carry_task : SumTask t axis m.sums out
   carry_task = record {
@@ -186,7 +186,7 @@ module _ (t : TaskView) (sound : Sound t.plan) (axis source out : ℕ) (m : Scan
   scan_grid = grid_ok t.plan out sound (scan_fit.1 0 0 (omega arith)).0
 
   scan_in : t.number < product (grid_counts (grid_at t.plan.arrays out))
-  scan_in = subst (λ (o : Op). t.number < tasks_of t.plan.arrays o) m.is t.within
+  scan_in = subst (λ (o : Op). t.number < regions_of t.plan.arrays o) m.is t.within
 
   pub scan_task : SumTask t axis source out
   scan_task = record {

@@ -8,7 +8,7 @@ use Rattle.cu_shape.specs.Index.{product, differences}
 use Rattle.cu_op.specs.Arrays.{type_at}
 use Rattle.cu_op.specs.Cells.{task_lo, task_hi}
 use Rattle.cu_op.specs.Operation.{reads_of, writes_of, target_of, compared_array, value_array}
-use Rattle.cu_op.specs.Projection.{projection, instruction_count}
+use Rattle.cu_op.specs.Projection.{projection}
 use Rattle.cu_op.specs.Sound.{Sound}
 use Rattle.cu_op.specs.TaskView.{TaskView, task_op}
 use Rattle.cu_op.specs.declared.layout.ArrayInfo.{ArrayInfo}
@@ -18,9 +18,9 @@ use Rattle.arrayvec.specs.declared.ArrayVec.{ArrayVec}
 use Rattle.cu_origin.specs.declared.pull.Pull.{Pull as View}
 use Rattle.cu_op.proofs.Operations.{Fit}
 use Rattle.cu_op.proofs.TaskCells.{fit_of}
-use Rattle.cu_task.specs.OfTask.{scratch_bytes, kept_bytes, found_bytes, made_bytes}
+use Rattle.cu_task.specs.OfTask.{work_bytes, kernel_words, kept_bytes, found_bytes, made_bytes}
 use Rattle.cu_task.specs.Task.{IsPlaceSearch, IsComputing, compared_by, room_beside, IsSomeArray}
-use Rattle.cu_task.proofs.TaskRegions.{lent_to}
+use Rattle.cu_task.proofs.Inside.{lent_room}
 use Rattle.cu_task.proofs.TaskRooms.{rooms_fit}
 
 -- ---- kinds
@@ -66,13 +66,13 @@ stored_room arrays k op task array fit is =
 
 -- the parts of what a task is lent fit into it
 pub record LentParts (t : TaskView) (bytes : ℕ) : Type 0 where
-  pub fit : scratch_bytes t + kept_bytes t + found_bytes t + made_bytes t ≤ bytes
+  pub fit : work_bytes t + kept_bytes t + found_bytes t + made_bytes t ≤ bytes
   pub small : bytes < 2 ^ 64
 
-pub lent_parts : (t : TaskView) → Sound t.plan → (bytes words : ℕ) → words ≡ 64 * instruction_count (task_op t)
-    → t.plan.reserved + bytes + 8 * words ≡ projection t.plan.arrays t.plan.reserved (task_op t) → LentParts t bytes
+pub lent_parts : (t : TaskView) → Sound t.plan → (bytes words : ℕ) → words ≡ kernel_words t
+    → t.plan.reserved + bytes + 8 * words ≡ projection t.plan t.op → LentParts t bytes
 lent_parts t sound bytes words count room =
-    let lent = lent_to t.plan t.op bytes words sound t.operation count room in
+    let lent = lent_room t.plan t.op bytes words sound t.operation count room in
     let parts = lent.parts in
     let rooms = rooms_fit t.plan sound t.op (task_op t) t.number (fit_of t.plan sound t.op t.operation) t.within in
     record { fit = omega (arith, parts, rooms); small = lent.small }

@@ -5,7 +5,7 @@ use Rattle.cu_op.specs.PlanView.{PlanView}
 use Rattle.cu_op.specs.Arrays.{array_at}
 use Rattle.cu_op.specs.Cells.{task_lo, task_hi}
 use Rattle.cu_op.specs.Schedule.{op_of, key_of}
-use Rattle.cu_op.specs.Walks.{input_walks, written_chunks}
+use Rattle.cu_op.specs.Walks.{written_chunks}
 use Rattle.cu_op.specs.declared.cells.Cell.{Cell}
 use Rattle.cu_op.specs.declared.layout.ArrayInfo.{ArrayInfo}
 use Rattle.cu_op.specs.declared.walks.Walk.{Walk}
@@ -13,16 +13,16 @@ use Rattle.cu_region.specs.Reading.{IsChunkKey}
 use Rattle.cu_region.specs.Writing.{RegionPut}
 use Rattle.cu_store.specs.Chunks.{Keeps, Allows}
 use Rattle.cu_task.specs.Inputs.{IsWalkKey}
-use Rattle.cu_task.specs.Task.{TaskChange, IsResultOver}
+use Rattle.cu_task.specs.Task.{IsTaskKey, TaskChange, IsResultOver}
 use Rattle.cu_task.specs.Views.{ViewTask, IsSourceKey}
 
--- the chunks of these walks may be asked for
-abbrev pub MayReadWalks : List ArrayInfo → List Walk → (List ℕ → Type 0) → Type 0
-MayReadWalks arrays walks K = Keeps (IsWalkKey arrays walks) K
+-- the chunks of a walk may be asked for
+abbrev pub MayReadWalk : List ArrayInfo → Walk → (List ℕ → Type 0) → Type 0
+MayReadWalk arrays w K = Keeps (IsWalkKey arrays w) K
 
 -- those that a task reads
 abbrev pub MayReadTask : PlanView → ℕ → ℕ → (List ℕ → Type 0) → Type 0
-MayReadTask p k task K = MayReadWalks p.arrays (input_walks p.arrays (op_of p k) task) K
+MayReadTask p k task K = Keeps (IsTaskKey p k task) K
 
 -- those of each source of a view
 abbrev pub MayReadSources : ViewTask → (List ℕ → Type 0) → Type 0

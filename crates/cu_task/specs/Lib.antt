@@ -1,7 +1,9 @@
 pub mod Asks
 pub mod Blocks
 pub mod ByLabels
+pub mod Calls
 pub mod Inputs
+pub mod Inside
 pub mod OfTask
 pub mod Serving
 pub mod Task

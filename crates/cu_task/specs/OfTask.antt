@@ -1,23 +1,30 @@
 -- What a task reads and makes, where its plan, its operation and its number are one value: the words of Task.antt and Asks.antt for it, and for the array that the tasks of its operation go over.
-use Rattle.std.specs.Prelude.{ℕ, List, length}
+use Rattle.std.specs.Prelude.{ℕ, ◌*◌, ◌<◌, List, drop, length, sum_by}
 use Rattle.cu_store.specs.Held.{Contents}
 use Rattle.cu_store.specs.Steps.{Shown, Changes}
 use Rattle.cu_store.specs.declared.faults.TaskFault.{TaskFault}
 use Rattle.cu_op.specs.Arrays.{type_at}
+use Rattle.cu_op.specs.Cells.{tasks_of}
 use Rattle.cu_op.specs.Operation.{target_of}
-use Rattle.cu_op.specs.Projection.{scratch_room}
+use Rattle.cu_op.specs.Projection.{instruction_count, scratch_room}
 use Rattle.cu_op.specs.TaskView.{TaskView, task_op}
 use Rattle.cu_op.specs.Elements.{Elements}
 use Rattle.cu_op.specs.Value.{stored_inputs}
-use Rattle.cu_op.specs.Walks.{input_walks, written_chunks}
+use Rattle.cu_op.specs.Walks.{cells_of_walks, input_walks, walk_cells, written_chunks}
+use Rattle.cu_op.specs.Within.{with_inlined}
+use Rattle.cu_op.specs.declared.walks.Walk.{Walk}
 use Rattle.cu_region.specs.Writing.{AreElements}
 use Rattle.cu_task.specs.Asks.{MayReadTask, MayReadWritten}
-use Rattle.cu_task.specs.Inputs.{room_of_walks}
-use Rattle.cu_task.specs.Task.{IsTaskReady, TaskChange, HoldsCells, read_calls, kept_room, result_room, found_room, HasResult, IsComputed, AreSteadyInputs, IsResultOver, IsTaskFault}
+use Rattle.cu_task.specs.Inputs.{room_of_walks, HasRegion}
+use Rattle.cu_task.specs.Calls.{chunk_calls, read_calls, HasSureCalls}
+use Rattle.cu_task.specs.Task.{IsTaskReady, TaskChange, HoldsCells, IsTaskKey, StillHolds, steps_within, work_room, kept_room, result_room, found_room, HasResult, IsComputed, AreSteadyInputs, IsResultOver, IsTaskFault}
 
--- the bytes through which it reads and writes chunks, of the regions that it reads, and of the elements that it makes
+-- the bytes through which it reads and writes chunks; those with what stands inside it; of the regions that it reads; and of the elements that it makes
 abbrev pub scratch_bytes : TaskView → ℕ
 scratch_bytes t = scratch_room t.plan.arrays (task_op t)
+
+abbrev pub work_bytes : TaskView → ℕ
+work_bytes t = work_room t.plan t.op
 
 abbrev pub read_bytes : TaskView → ℕ
 read_bytes t = room_of_walks t.plan.arrays (input_walks t.plan.arrays (task_op t) t.number)
@@ -33,9 +40,26 @@ kept_bytes t = kept_room t.plan.arrays (task_op t) t.number
 abbrev pub found_bytes : TaskView → ℕ
 found_bytes t = found_room t.plan t.op t.number
 
--- the calls by which it reads, and those by which it writes
+-- the words of its kernel, and with those inside it
+abbrev pub own_words : TaskView → ℕ
+own_words t = 64 * instruction_count (task_op t)
+
+abbrev pub kernel_words : TaskView → ℕ
+kernel_words t = 64 * steps_within t.plan t.op
+
+-- the regions from which it computes, from one on
+abbrev pub walks_from : TaskView → ℕ → List Walk
+walks_from t place = drop place (input_walks t.plan.arrays (task_op t) t.number)
+
+-- the calls by which it reads, those for a region and for several, and those by which it writes
 abbrev pub calls_to_read : TaskView → ℕ
-calls_to_read t = read_calls t.plan.arrays (task_op t) t.number
+calls_to_read t = read_calls t.plan t.op t.number
+
+abbrev pub calls_for_walk : TaskView → Walk → ℕ
+calls_for_walk t w = sum_by (chunk_calls t.plan t.op) (walk_cells t.plan.arrays w)
+
+abbrev pub calls_for_walks : TaskView → List Walk → ℕ
+calls_for_walks t walks = sum_by (chunk_calls t.plan t.op) (cells_of_walks t.plan.arrays walks)
 
 abbrev pub calls_to_write : TaskView → ℕ
 calls_to_write t = length (written_chunks t.plan.arrays (task_op t) t.number)
@@ -54,9 +78,28 @@ IsReadyFor t env shown = IsTaskReady t.plan t.op t.number env shown
 abbrev pub AreSteady : TaskView → Shown → Contents → Type 0
 AreSteady t shown held = AreSteadyInputs t.plan t.op t.number shown held
 
--- the elements of its inputs in what is held
+-- as what is held was held when it began
+abbrev pub HoldsFor : TaskView → Contents → Shown → Type 0
+HoldsFor t held shown = StillHolds (IsTaskKey t.plan t.op t.number) held shown
+
+-- nothing fails but the calls that are made for sure
+abbrev pub IsSure : TaskView → Type 0
+IsSure t = HasSureCalls t.plan t.op
+
+-- it is one of the operation's own, and so writes chunks
+abbrev pub IsOwnTask : TaskView → Type 0
+IsOwnTask t = t.number < tasks_of t.plan.arrays (task_op t)
+
+-- the elements that are held, and with those that are made of them where they are read
+abbrev pub stored_elements : TaskView → Contents → Elements
+stored_elements t held = stored_inputs t.plan.arrays held
+
 abbrev pub held_inputs : TaskView → Contents → Elements
-held_inputs t held = stored_inputs t.plan.arrays held
+held_inputs t held = with_inlined t.plan (stored_inputs t.plan.arrays held)
+
+-- the buffer has the elements of a region of these
+abbrev pub HasWalk : TaskView → Elements → Walk → List ℕ → Type 0
+HasWalk t at w buf = HasRegion (type_at t.plan.arrays w.array) (at w.array) w.region.lo w.region.hi buf
 
 -- the buffer has what it makes: of some elements, from the bytes of the regions that it reads, and of what is held in a depot that is steady
 abbrev pub HasMade : TaskView → Elements → List ℕ → Type 0

@@ -11,7 +11,8 @@ use Rattle.cu_op.specs.PlanView.{PlanView}
 use Rattle.cu_op.specs.Schedule.{op_of, key_of, cell_value}
 use Rattle.cu_op.specs.Sound.{IsCell}
 use Rattle.cu_op.specs.Value.{stored_inputs}
-use Rattle.cu_op.specs.Walks.{written_chunks, read_chunks}
+use Rattle.cu_op.specs.Walks.{written_chunks}
+use Rattle.cu_op.specs.Within.{fetched_chunks}
 use Rattle.cu_op.specs.declared.cells.Cell.{Cell}
 use Rattle.cu_region.specs.Steady.{HoldsLength}
 
@@ -32,7 +33,7 @@ pub record ServesPlan (p : PlanView) (yard : Served) : Type 0 where
 
 -- each chunk of a made array that the task reads was seen
 abbrev pub HasSeenInputs : PlanView → ℕ → ℕ → (List ℕ → Bool) → Type 0
-HasSeenInputs p k task seen = (c : Cell) → Contains (read_chunks p.arrays (op_of p k) task) c → maker_at p.arrays c.array ≢ None → IsTrue (seen (key_of p.arrays c))
+HasSeenInputs p k task seen = (c : Cell) → Contains (fetched_chunks p k task) c → maker_at p.arrays c.array ≢ None → IsTrue (seen (key_of p.arrays c))
 
 -- and each that it writes
 abbrev pub HasSeenOutputs : PlanView → ℕ → ℕ → (List ℕ → Bool) → Type 0

@@ -1,24 +1,23 @@
 -- The memory that a task is lent, in its parts, and what the task makes in it. This project's own rules.
-use Rattle.std.specs.Prelude.{◌≡◌, ℕ, ◌*◌, ◌≤◌, List, length, Some}
+use Rattle.std.specs.Prelude.{◌≡◌, ℕ, ◌≤◌, List, length, Some}
 use Rattle.cu_store.specs.Chunks.{Allows}
 use Rattle.cu_store.specs.Steps.{Shown}
 use Rattle.cu_op.specs.Arrays.{type_at}
 use Rattle.cu_op.specs.Elements.{Elements}
-use Rattle.cu_op.specs.Projection.{instruction_count}
 use Rattle.cu_op.specs.TaskView.{TaskView, task_op}
 use Rattle.cu_region.specs.Writing.{AreElements}
-use Rattle.cu_task.specs.OfTask.{scratch_bytes, kept_bytes, found_bytes, made_bytes, HasMade, IsMadeOver, AreOfItsType, ChangeBy}
+use Rattle.cu_task.specs.OfTask.{work_bytes, kernel_words, kept_bytes, found_bytes, made_bytes, HasMade, IsMadeOver, AreOfItsType, ChangeBy}
 use Rattle.cu_op.specs.Operation.{value_array}
 use Rattle.cu_task.specs.Task.{HasResult, IsResultOver}
 use Rattle.cu_task.specs.declared.room.TaskRoom.{TaskRoom}
 
--- each part is as long as the task wants
+-- each part is as long as the task wants: the scratch and the words for what stands inside it as well
 pub record IsRoomOf (t : TaskView) (room : TaskRoom) : Type 0 where
-  pub scratch : scratch_bytes t ≤ length room.scratch.now
+  pub scratch : work_bytes t ≤ length room.scratch.now
   pub inputs : length room.inputs.now ≡ kept_bytes t
   pub values : length room.values.now ≡ found_bytes t
   pub output : length room.output.now ≡ made_bytes t
-  pub words : length room.words.now ≡ 64 * instruction_count (task_op t)
+  pub words : kernel_words t ≤ length room.words.now
 
 -- it has what the task makes of some elements: its own, and the values that it finds, where they are stored
 pub record HasMadeAll (t : TaskView) (at : Elements) (room : TaskRoom) : Type 0 where

@@ -5,7 +5,7 @@ ghost use Rattle.cu_store.specs.Chunks.{StaysOpen};
 ghost use Rattle.cu_store.specs.Steps.{NoChange, Steps};
 ghost use Rattle.cu_op.specs.TaskView.{task_op};
 ghost use Rattle.cu_region.specs.Calls.{Made};
-ghost use Rattle.cu_task.specs.OfTask.{scratch_bytes, made_bytes, calls_to_read, MayRead, AreSteady, HasMade, AreOfItsType, IsOwnFault, held_inputs};
+ghost use Rattle.cu_task.specs.OfTask.{scratch_bytes, made_bytes, calls_to_read, MayRead, AreSteady, HasMade, AreOfItsType, IsOwnFault, stored_elements};
 ghost use Rattle.cu_task.specs.Task.{IsCopy};
 
 use crate::inputs::{input_walk, read_walk};
@@ -28,7 +28,7 @@ pub(crate) fn copy_region<C: Chunks>(
     ensures open { StaysOpen (C.belongs store.now access.new) (C.may_get store.now access.old)
         (C.may_get store.now access.new) }
     ensures values { (held : Contents) → AreSteady task.now (C.shown access.old) held
-        → OnOk result (HasMade task.now (held_inputs task.now held) output.new) }
+        → OnOk result (HasMade task.now (stored_elements task.now held) output.new) }
     ensures elements { OnOk result (AreOfItsType task.now output.new) }
     ensures step { Steps NoChange 0 (calls_to_read task.now) (C.shown access.old)
         (C.shown access.new) }

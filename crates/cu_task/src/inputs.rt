@@ -1,23 +1,21 @@
-//! The regions that a task reads, one behind another in its memory.
-ghost use Rattle.std.specs.Prelude.{◌≡◌, ◌*◌, ◌<◌, ◌≤◌, ◌^◌, [], ◌∷◌, Some, All, length, slice_index_or, IfErr, OnOk};
+//! The regions from which a task computes, one behind another in its memory.
+ghost use Rattle.std.specs.Prelude.{◌≡◌, ◌*◌, ◌<◌, ◌≤◌, ◌^◌, Some, All, length, IfErr, OnOk};
 ghost use Rattle.cu_num.specs.Dtype.{size_of};
 ghost use Rattle.cu_shape.specs.Index.{product, differences};
 ghost use Rattle.cu_store.specs.Held.{Contents};
 ghost use Rattle.cu_store.specs.Chunks.{StaysOpen};
-ghost use Rattle.cu_task.specs.Asks.{MayReadWalks};
+ghost use Rattle.cu_task.specs.Asks.{MayReadWalk};
 ghost use Rattle.cu_store.specs.Steps.{NoChange, Steps};
 ghost use Rattle.cu_op.specs.Arrays.{array_at, type_at, chunk_room};
 ghost use Rattle.cu_op.specs.Sound.{Sound};
-ghost use Rattle.cu_op.specs.TaskView.{task_op};
-ghost use Rattle.cu_op.specs.Chunks.{walk};
-ghost use Rattle.cu_op.specs.Walks.{IsWalkOver, walk_cells, cells_of_walks, input_walks};
+ghost use Rattle.cu_op.specs.TaskView.{task_op, walk_at};
+ghost use Rattle.cu_op.specs.Walks.{IsWalkOver, walk_cells, input_walks};
 ghost use Rattle.cu_region.specs.Reading.{ReadsRegion};
 ghost use Rattle.cu_region.specs.Calls.{Made};
-ghost use Rattle.cu_region.specs.Steady.{IsSteady};
 ghost use Rattle.cu_region.specs.Writing.{AreElements};
-ghost use Rattle.cu_task.specs.Inputs.{walk_room, room_of_walks, HasRegions, lays_from, IsWalkKey, IsTaskInputFault};
-ghost use Rattle.cu_task.specs.OfTask.{scratch_bytes, read_bytes, calls_to_read, held_inputs, MayRead, AreSteady, IsOwnFault};
-ghost use Rattle.cu_task.specs.Task.{ReadsRegions};
+ghost use Rattle.cu_task.specs.Inputs.{walk_room, room_of_walks, lays_from, IsWalkKey, IsWalkFault};
+ghost use Rattle.cu_task.specs.OfTask.{read_bytes};
+ghost use Rattle.cu_task.specs.Task.{StillHolds};
 
 use arrayvec::ArrayVec;
 use cu_grid::Region;
@@ -27,71 +25,6 @@ use cu_op::{PlanTask, Walk};
 use cu_region::read_region_of;
 use cu_shape::difference;
 use cu_store::{Chunks, TaskFault};
-
-/// Reads the regions of the arrays that a task reads into a buffer, one behind another, through `scratch`, which has the bytes of a chunk
-/// of each. It makes one call of the store for each chunk that meets a region.
-pub(crate) fn read_regions<C: Chunks>(
-    store: &C::Store,
-    access: &mut C::Access,
-    task: &PlanTask<'_>,
-    inputs: &mut [u8],
-    scratch: &mut [u8],
-) -> Result<(), TaskFault>
-    requires belongs { C.belongs store.now access.old }
-    requires may { MayRead task.now (C.may_get store.now access.old) }
-    requires regions { ReadsRegions (task_op task.now) }
-    requires room { read_bytes task.now ≤ length inputs.old }
-    requires scratch { scratch_bytes task.now ≤ length scratch.old }
-    ensures open { StaysOpen (C.belongs store.now access.new) (C.may_get store.now access.old)
-        (C.may_get store.now access.new) }
-    ensures read { (held : Contents) → AreSteady task.now (C.shown access.old) held
-        → OnOk result (HasRegions task.now.plan.arrays (held_inputs task.now held)
-        (input_walks task.now.plan.arrays (task_op task.now) task.now.number) inputs.new) }
-    ensures step { Steps NoChange 0 (calls_to_read task.now) (C.shown access.old)
-        (C.shown access.new) }
-    ensures all { OnOk result (Made (calls_to_read task.now) (C.shown access.old).calls
-        (C.shown access.new).calls) }
-    ensures cause { IfErr result (IsOwnFault task.now (C.shown access.old) (C.shown access.new)) }
-{
-    let walks = task.input_walks();
-    read_inputs::<C>(store, access, task, walks, inputs, scratch)
-}
-
-/// Reads the region of each walk, one behind another, through `scratch`.
-fn read_inputs<C: Chunks>(
-    store: &C::Store,
-    access: &mut C::Access,
-    task: &PlanTask<'_>,
-    walks: &[Walk],
-    inputs: &mut [u8],
-    scratch: &mut [u8],
-) -> Result<(), TaskFault>
-    requires belongs { C.belongs store.now access.old }
-    requires may { MayReadWalks task.now.plan.arrays walks.now (C.may_get store.now access.old) }
-    requires walks { All (IsWalkOver task.now.plan.arrays) walks.now }
-    requires room { room_of_walks task.now.plan.arrays walks.now ≤ length inputs.old }
-    requires scratch { All (λ w. chunk_room task.now.plan.arrays w.array ≤ length scratch.old)
-        walks.now }
-    ensures open { StaysOpen (C.belongs store.now access.new) (C.may_get store.now access.old)
-        (C.may_get store.now access.new) }
-    ensures read { (held : Contents) → (C.shown access.old).held ≡ Some held → IsSteady (IsWalkKey task.now.plan.arrays walks.now) (Some held) (C.shown access.old).late
-        → OnOk result (HasRegions task.now.plan.arrays (held_inputs task.now held) walks.now inputs.new) }
-    ensures step { Steps NoChange 0 (length (cells_of_walks task.now.plan.arrays walks.now))
-        (C.shown access.old) (C.shown access.new) }
-    ensures all { OnOk result (Made (length (cells_of_walks task.now.plan.arrays walks.now))
-        (C.shown access.old).calls (C.shown access.new).calls) }
-    ensures cause { IfErr result (IsTaskInputFault (C.shown access.old) (C.shown access.new)
-        task.now.plan.arrays walks.now) }
-{
-    match walks {
-        [] => Ok(()),
-        [walk, rest @ ..] => {
-            let (own, others) = inputs.split_at_mut(walk_bytes(task, walk));
-            read_walk::<C>(store, access, task, walk, own, scratch)?;
-            read_inputs::<C>(store, access, task, rest, others, scratch)
-        }
-    }
-}
 
 /// Reads the region of a walk.
 pub(crate) fn read_walk<C: Chunks>(
@@ -103,14 +36,14 @@ pub(crate) fn read_walk<C: Chunks>(
     scratch: &mut [u8],
 ) -> Result<(), TaskFault>
     requires belongs { C.belongs store.now access.old }
-    requires may { MayReadWalks task.now.plan.arrays (walk.now ∷ [])
-        (C.may_get store.now access.old) }
+    requires may { MayReadWalk task.now.plan.arrays walk.now (C.may_get store.now access.old) }
     requires walk { IsWalkOver task.now.plan.arrays walk.now }
     requires room { length out.old ≡ walk_room task.now.plan.arrays walk.now }
     requires scratch { chunk_room task.now.plan.arrays walk.now.array ≤ length scratch.old }
     ensures open { StaysOpen (C.belongs store.now access.new) (C.may_get store.now access.old)
         (C.may_get store.now access.new) }
-    ensures read { (held : Contents) → (C.shown access.old).held ≡ Some held → IsSteady (IsWalkKey task.now.plan.arrays (walk.now ∷ [])) (Some held) (C.shown access.old).late
+    ensures read { (held : Contents)
+        → StillHolds (IsWalkKey task.now.plan.arrays walk.now) held (C.shown access.old)
         → OnOk result (ReadsRegion (array_at task.now.plan.arrays walk.now.array) walk.now.region.lo
         walk.now.region.hi (Some held) out.new) }
     ensures elements { OnOk result (AreElements (type_at task.now.plan.arrays walk.now.array)
@@ -119,8 +52,8 @@ pub(crate) fn read_walk<C: Chunks>(
         (C.shown access.old) (C.shown access.new) }
     ensures all { OnOk result (Made (length (walk_cells task.now.plan.arrays walk.now))
         (C.shown access.old).calls (C.shown access.new).calls) }
-    ensures cause { IfErr result (IsTaskInputFault (C.shown access.old) (C.shown access.new)
-        task.now.plan.arrays (walk.now ∷ [])) }
+    ensures cause { IfErr result (IsWalkFault (C.shown access.old) (C.shown access.new)
+        task.now.plan.arrays walk.now) }
 {
     read_region_of::<C>(
         store,
@@ -200,9 +133,7 @@ pub(crate) fn lays_of(task: &PlanTask<'_>, walks: &[Walk]) -> ArrayVec<Lay, 8>
 /// The region of an array that a task reads, by its place among them.
 pub(crate) fn input_walk(task: &PlanTask<'_>, at: usize) -> Walk
     requires { at < length (input_walks task.now.plan.arrays (task_op task.now) task.now.number) }
-    ensures walk { result
-        ≡ slice_index_or (input_walks task.now.plan.arrays (task_op task.now) task.now.number) at
-        (walk 0 [] []) }
+    ensures walk { result ≡ walk_at task.now at }
     ensures over { IsWalkOver task.now.plan.arrays result }
     ensures sound { Sound task.now.plan }
 {

@@ -1,10 +1,13 @@
 //! The tasks of a plan.
 #![tactic(auto)]
 
+mod compute;
 mod copies;
 mod groups;
+mod inner;
 mod inputs;
 mod laws;
+mod making;
 mod maps;
 mod products;
 mod pulls;

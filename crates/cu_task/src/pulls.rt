@@ -5,9 +5,9 @@ ghost use Rattle.cu_store.specs.Chunks.{StaysOpen};
 ghost use Rattle.cu_store.specs.Steps.{NoChange, Steps};
 ghost use Rattle.cu_op.specs.TaskView.{task_op};
 ghost use Rattle.cu_region.specs.Calls.{Made};
-ghost use Rattle.cu_task.specs.OfTask.{scratch_bytes, made_bytes, calls_to_read, MayRead, AreSteady, HasMade, AreOfItsType, IsOwnFault, held_inputs};
+ghost use Rattle.cu_task.specs.OfTask.{scratch_bytes, made_bytes, calls_to_read, MayRead, AreSteady, HasMade, AreOfItsType, IsOwnFault, stored_elements};
 ghost use Rattle.cu_task.specs.ViewJobs.{IsViewJob};
-ghost use Rattle.cu_task.specs.Task.{HasSureCalls};
+ghost use Rattle.cu_task.specs.Calls.{MakesSureCalls};
 
 use crate::views::{ViewJob, lay_numbers, read_sources};
 use cu_store::{Chunks, TaskFault};
@@ -29,11 +29,11 @@ pub(crate) fn pull_result<C: Chunks>(
     ensures open { StaysOpen (C.belongs store.now access.new) (C.may_get store.now access.old)
         (C.may_get store.now access.new) }
     ensures values { (held : Contents) → AreSteady job.now.task.now (C.shown access.old) held
-        → OnOk result (HasMade job.now.task.now (held_inputs job.now.task.now held) output.new) }
+        → OnOk result (HasMade job.now.task.now (stored_elements job.now.task.now held) output.new) }
     ensures elements { OnOk result (AreOfItsType job.now.task.now output.new) }
     ensures step { Steps NoChange 0 (calls_to_read job.now.task.now) (C.shown access.old)
         (C.shown access.new) }
-    ensures all { HasSureCalls (task_op job.now.task.now)
+    ensures all { MakesSureCalls (task_op job.now.task.now)
         → OnOk result (Made (calls_to_read job.now.task.now) (C.shown access.old).calls
         (C.shown access.new).calls) }
     ensures cause { IfErr result (IsOwnFault job.now.task.now (C.shown access.old)

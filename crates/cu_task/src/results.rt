@@ -13,7 +13,7 @@ ghost use Rattle.cu_op.specs.Chunks.{walk};
 ghost use Rattle.cu_op.specs.Walks.{walk_cells};
 ghost use Rattle.cu_region.specs.Calls.{Made};
 ghost use Rattle.cu_region.specs.Writing.{AreElements, LateIsOwn, RegionPut, StoresRegion, IsWriteFault};
-ghost use Rattle.cu_task.specs.OfTask.{found_bytes, calls_to_write, MayReadMade, IsReadyFor, HoldsMade, scratch_bytes, made_bytes, IsMadeOver, AreOfItsType, ChangeBy};
+ghost use Rattle.cu_task.specs.OfTask.{found_bytes, calls_to_write, MayReadMade, IsReadyFor, HoldsMade, IsOwnTask, scratch_bytes, made_bytes, IsMadeOver, AreOfItsType, ChangeBy};
 ghost use Rattle.cu_task.specs.Task.{result_room};
 ghost use Rattle.cu_task.specs.TaskRoom.{IsRoomOf, IsAllMadeOver, AreAllOfTheirTypes, AllowsMade};
 
@@ -99,6 +99,7 @@ fn write_only<C: Chunks>(
     requires belongs { C.belongs store.now access.old }
     requires puts { AllowsResult task.now.plan task.now.op task.now.number
         (target_of (task_op task.now)) output.now (C.may_put store.now) }
+    requires own { IsOwnTask task.now }
     requires only { writes_of (task_op task.now) ≡ target_of (task_op task.now) ∷ [] }
     requires output { length output.now ≡ made_bytes task.now }
     requires elements { AreOfItsType task.now output.now }
@@ -132,6 +133,7 @@ fn write_both<C: Chunks>(
 ) -> Result<(), TaskFault>
     requires belongs { C.belongs store.now access.old }
     requires puts { AllowsMade task.now room.old (C.may_put store.now) }
+    requires own { IsOwnTask task.now }
     requires stored { value_array (task_op task.now) ≡ Some array }
     requires room { IsRoomOf task.now room.old }
     requires elements { AreAllOfTheirTypes task.now room.old }
@@ -168,6 +170,7 @@ pub(crate) fn write_results<C: Chunks>(
 ) -> Result<(), TaskFault>
     requires belongs { C.belongs store.now access.old }
     requires puts { AllowsMade task.now room.old (C.may_put store.now) }
+    requires own { IsOwnTask task.now }
     requires room { IsRoomOf task.now room.old }
     requires elements { AreAllOfTheirTypes task.now room.old }
     ensures open { StaysOpen (C.belongs store.now access.new) (C.may_get store.now access.old)

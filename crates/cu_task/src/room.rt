@@ -1,9 +1,8 @@
 //! The memory that a task is lent.
 ghost use Rattle.std.specs.Prelude.{◌≡◌, ◌+◌, ◌*◌, ◌<◌, ◌^◌, ◌++◌, length};
-ghost use Rattle.cu_op.specs.Projection.{projection, instruction_count};
+ghost use Rattle.cu_op.specs.Projection.{projection};
 ghost use Rattle.cu_op.specs.Sound.{Sound};
-ghost use Rattle.cu_op.specs.TaskView.{task_op};
-ghost use Rattle.cu_task.specs.OfTask.{kept_bytes};
+ghost use Rattle.cu_task.specs.OfTask.{kept_bytes, kernel_words};
 ghost use Rattle.cu_task.specs.TaskRoom.{IsRoomOf};
 
 use crate::inputs::input_bytes;
@@ -13,7 +12,8 @@ use cu_op::{Op, PlanTask};
 /// The memory that a task is lent, in its parts.
 #[derive(Drop)]
 pub(crate) struct TaskRoom<'a> {
-    /// Through which chunks are read and written.
+    /// Through which chunks are read and written, and in which the regions of what stands inside
+    /// the task are laid.
     pub(crate) scratch: &'a mut [u8],
     /// The regions from which the task computes, one behind another.
     pub(crate) inputs: &'a mut [u8],
@@ -32,9 +32,9 @@ impl<'a> TaskRoom<'a> {
         bytes: &'a mut [u8],
         words: &'a mut [u64],
     ) -> TaskRoom<'a>
-        requires words { length words.old ≡ 64 * instruction_count (task_op task.now) }
+        requires words { length words.old ≡ kernel_words task.now }
         requires bytes { task.now.plan.reserved + length bytes.old + 8 * length words.old
-            ≡ projection task.now.plan.arrays task.now.plan.reserved (task_op task.now) }
+            ≡ projection task.now.plan task.now.op }
         ensures room { IsRoomOf task.now result }
         ensures together { bytes.old ≡ result.scratch.now ++ result.inputs.now
             ++ result.values.now ++ result.output.now }
@@ -61,7 +61,7 @@ impl<'a> TaskRoom<'a> {
 
 /// The bytes of the regions that a task keeps beside its scratch and what it makes: none of a view,
 /// or of a copy, which reads into its result.
-fn kept_bytes(task: &PlanTask<'_>) -> usize
+pub(crate) fn kept_bytes(task: &PlanTask<'_>) -> usize
     requires { kept_bytes task.now < 2 ^ 64 }
     ensures { result ≡ kept_bytes task.now }
 {

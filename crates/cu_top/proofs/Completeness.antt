@@ -6,9 +6,10 @@ use Rattle.cu_store.specs.Held.{Contents, Write, IsAmong, IsHeldIn}
 use Rattle.cu_store.specs.Steps.{NoChange, OrLate, Lands}
 use Rattle.cu_op.specs.declared.cells.Cell.{Cell}
 use Rattle.cu_grid.specs.Grid.{IsCoordinate}
-use Rattle.cu_op.specs.Arrays.{chunk_room, grid_at, maker_at}
+use Rattle.cu_op.specs.Arrays.{chunk_room, grid_at, is_inlined, maker_at}
 use Rattle.cu_op.specs.Schedule.{op_of, key_of}
-use Rattle.cu_op.proofs.TaskCells.{fit_of, read_array}
+use Rattle.cu_op.proofs.Fetched.{fetched_stored}
+use Rattle.cu_op.proofs.Plans.{own_region}
 use Rattle.cu_region.specs.Steady.{HoldsLength}
 use Rattle.cu_run_law.specs.Left.{RunChange}
 use Rattle.cu_run_law.specs.Pieces.{Chunk, IsInputChunk, IsPiece, piece_key}
@@ -98,13 +99,14 @@ module _ (c : RunCase) (entry : Contents) (told : c.old.depot.held ≡ Some entr
 
   pub not_bad : (key : List ℕ) (got want : ℕ) → IsBadChunk (plan_in c job) c.new.depot key got want → IsInputKey (plan_in c job) key → ⊥
   not_bad key got want (op, task, k, first, number, listed, is_key, is_want, differ, holds) of_input =
-      let read = read_array (plan_in c job) started.sound op (op_of (plan_in c job) op) (fit_of (plan_in c job) started.sound op first) task k number listed in
-      by_maker (maker_at (plan_in c job).arrays k.array) refl read.1.0 read.1.1
+      let (chunk, stored) = fetched_stored (plan_in c job) started.sound op task k first (own_region (plan_in c job).arrays (op_of (plan_in c job) op) task number) listed in
+      by_maker (maker_at (plan_in c job).arrays k.array) refl stored chunk.0 chunk.1
     where
-      by_maker : (m : Option ℕ) → maker_at (plan_in c job).arrays k.array ≡ m → (k.array < length (plan_in c job).arrays) → IsCoordinate (grid_at (plan_in c job).arrays k.array) k.coord → ⊥
-      by_maker None given within coordinate = whole_input k key got want (record { within = within; given = given; coordinate = coordinate }) is_key is_want differ holds
-      by_maker (Some n) made within coordinate =
-          not_made k key (record { within = within; made = λ none. none_or_some (maker_at (plan_in c job).arrays k.array) n none made; coordinate = coordinate }) is_key of_input
+      by_maker : (m : Option ℕ) → maker_at (plan_in c job).arrays k.array ≡ m → is_inlined (plan_in c job).arrays k.array ≡ false → (k.array < length (plan_in c job).arrays)
+          → IsCoordinate (grid_at (plan_in c job).arrays k.array) k.coord → ⊥
+      by_maker None given stored within coordinate = whole_input k key got want (record { within = within; given = given; coordinate = coordinate }) is_key is_want differ holds
+      by_maker (Some n) made stored within coordinate =
+          not_made k key (record { within = within; made = λ none. none_or_some (maker_at (plan_in c job).arrays k.array) n none made; stored = stored; coordinate = coordinate }) is_key of_input
 
 -- ---- no other answer
 

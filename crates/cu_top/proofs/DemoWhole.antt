@@ -91,7 +91,7 @@ layout_is Rows n = refl
 layout_is Columns n = refl
 
 abbrev demo_info_of : DemoInput → Layout → ArrayInfo
-demo_info_of input l = record { prefix = demo_name input; layout = l; maker = None }
+demo_info_of input l = record { prefix = demo_name input; layout = l; maker = None; inlined = false }
 
 -- the law of a plan: each array that no operation makes is that of a live input node
 abbrev pub OnlyInputs : Options → Job → Type 0

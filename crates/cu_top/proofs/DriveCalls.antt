@@ -54,40 +54,40 @@ module _ (o : Options) (job : Job) (held : HeldTexts) (old new : Shown) where
   all_of : (result : Result RunEnd RunFault) → RunMakes (run_options o) (job_plan o job) held old new result → all_within
   all_of result makes = summed old.calls ((missing_texts held + 1) * (o.retries + 1)) (task_calls o job) new.calls makes.all
 
-  outcome_within : (outcome : Outcome) (counts : RunCounts) → all_within → IfErr (outcome_answer outcome counts) (DriveWithin o job held old new)
-  outcome_within ended.Complete counts all = tt
-  outcome_within (ended.Broken op task) counts all = all
-  outcome_within (ended.BadChunk key got want) counts all = all
-  outcome_within ended.Lacked counts all = all
+  outcome_within : (p : PlanView) (outcome : Outcome) (counts : RunCounts) → all_within → IfErr (outcome_answer p outcome counts) (DriveWithin o job held old new)
+  outcome_within p ended.Complete counts all = tt
+  outcome_within p (ended.Broken op task) counts all = all
+  outcome_within p (ended.BadChunk key got want) counts all = all
+  outcome_within p ended.Lacked counts all = all
 
-  answer_within : (of_record : List ℕ) (result : Result RunEnd RunFault) → RunMakes (run_options o) (job_plan o job) held old new result → IfErr (drive_answer of_record result) (DriveWithin o job held old new)
-  answer_within of_record (Ok e) makes = outcome_within e.outcome _ (all_of (Ok e) makes)
-  answer_within of_record (Err (text.TextFailed key)) makes = makes.begun
-  answer_within of_record (Err text.ShareFailed) makes = makes.begun
-  answer_within of_record (Err text.NoMemory) makes = all_of (Err text.NoMemory) makes
+  answer_within : (of_record : List ℕ) (p : PlanView) (result : Result RunEnd RunFault) → RunMakes (run_options o) (job_plan o job) held old new result → IfErr (drive_answer of_record p result) (DriveWithin o job held old new)
+  answer_within of_record p (Ok e) makes = outcome_within p e.outcome _ (all_of (Ok e) makes)
+  answer_within of_record p (Err (text.TextFailed key)) makes = makes.begun
+  answer_within of_record p (Err text.ShareFailed) makes = makes.begun
+  answer_within of_record p (Err text.NoMemory) makes = all_of (Err text.NoMemory) makes
 
   pub drive_stopped : (h : RunOptions) (p : PlanView) (of_record : List ℕ) (result : Result RunEnd RunFault) (answer : Result RunCounts Status) → h ≡ run_options o → p ≡ job_plan o job
-      → answer ≡ drive_answer of_record result → RunMakes h p held old new result → IfErr answer (DriveWithin o job held old new)
+      → answer ≡ drive_answer of_record p result → RunMakes h p held old new result → IfErr answer (DriveWithin o job held old new)
   drive_stopped h p of_record result answer how plan is makes =
-      subst (λ (r : Result RunCounts Status). IfErr r (DriveWithin o job held old new)) (sym is) (answer_within of_record result (own_options h p result how plan makes))
+      subst (λ (r : Result RunCounts Status). IfErr r (DriveWithin o job held old new)) (sym is) (answer_within of_record p result (own_options h p result how plan makes))
 
   pub drive_all : (h : RunOptions) (p : PlanView) (result : Result RunEnd RunFault) → h ≡ run_options o → p ≡ job_plan o job → RunMakes h p held old new result → all_within
   drive_all h p result how plan makes = all_of result (own_options h p result how plan makes)
 
   -- the calls by the starts that are counted, where all tasks are done
-  outcome_starts : (outcome : Outcome) (counts : RunCounts) → starts_within counts → IfOk (outcome_answer outcome counts) starts_within
-  outcome_starts ended.Complete counts within = within
-  outcome_starts (ended.Broken op task) counts within = tt
-  outcome_starts (ended.BadChunk key got want) counts within = tt
-  outcome_starts ended.Lacked counts within = tt
+  outcome_starts : (p : PlanView) (outcome : Outcome) (counts : RunCounts) → starts_within counts → IfOk (outcome_answer p outcome counts) starts_within
+  outcome_starts p ended.Complete counts within = within
+  outcome_starts p (ended.Broken op task) counts within = tt
+  outcome_starts p (ended.BadChunk key got want) counts within = tt
+  outcome_starts p ended.Lacked counts within = tt
 
-  answer_starts : (of_record : List ℕ) (result : Result RunEnd RunFault) → RunMakes (run_options o) (job_plan o job) held old new result → IfOk (drive_answer of_record result) starts_within
-  answer_starts of_record (Ok e) makes =
-      outcome_starts e.outcome (run_counts_in e.table.history)
+  answer_starts : (of_record : List ℕ) (p : PlanView) (result : Result RunEnd RunFault) → RunMakes (run_options o) (job_plan o job) held old new result → IfOk (drive_answer of_record p result) starts_within
+  answer_starts of_record p (Ok e) makes =
+      outcome_starts p e.outcome (run_counts_in e.table.history)
       (λ m most. summed old.calls ((missing_texts held + 1) * (o.retries + 1)) (count_kind is_start e.table.history * m) new.calls (makes.starts m most))
-  answer_starts of_record (Err f) makes = tt
+  answer_starts of_record p (Err f) makes = tt
 
   pub drive_starts : (h : RunOptions) (p : PlanView) (of_record : List ℕ) (result : Result RunEnd RunFault) (answer : Result RunCounts Status) → h ≡ run_options o → p ≡ job_plan o job
-      → answer ≡ drive_answer of_record result → RunMakes h p held old new result → IfOk answer starts_within
+      → answer ≡ drive_answer of_record p result → RunMakes h p held old new result → IfOk answer starts_within
   drive_starts h p of_record result answer how plan is makes =
-      subst (λ (r : Result RunCounts Status). IfOk r starts_within) (sym is) (answer_starts of_record result (own_options h p result how plan makes))
+      subst (λ (r : Result RunCounts Status). IfOk r starts_within) (sym is) (answer_starts of_record p result (own_options h p result how plan makes))

@@ -44,7 +44,7 @@ use Rattle.cu_lower.specs.declared.options.Options.{Options}
 use Rattle.cu_command.specs.Seen.{Stepped}
 use Rattle.cu_command.proofs.SeenLemmas.{stepped, stepped_then, stepped_wider, stepped_none}
 use Rattle.cu_command.specs.declared.job.Job.{Job}
-use Rattle.cu_top.specs.Driven.{DriveCase, drive_case, run_options, AreHeld, MissingPut, IsMissingText, IsUnrunBy, IsUnrun, Driven, HasEnded}
+use Rattle.cu_top.specs.Driven.{DriveCase, drive_case, run_options, AreHeld, MissingPut, IsMissingText, IsOfOps, IsUnrunBy, IsUnrun, Driven, HasEnded}
 use Rattle.cu_top.specs.Prepare.{HasNoOwnInput, job_plan, out_metadata}
 use Rattle.cu_top.specs.Quiet.{run_of_job}
 use Rattle.cu_top.specs.Record.{record_text}
@@ -52,10 +52,14 @@ use Rattle.cu_top.specs.Run.{RunCase, job_run, plan_in, env_of, IsMeant, HoldsAl
 use Rattle.cu_top.proofs.PlanLemmas.{differs}
 use Rattle.cu_top.proofs.StartsFew.{starts_few}
 
+-- a task that ended a history is one of the plan
+abbrev pub TaskLaw : Type 0
+TaskLaw = (s : Settings) (done : List Bool) (history : List Entry) (m : Machine) (op task : ℕ) → Replays s done history m
+    → m.ended ≡ Some (Broken op task) → IsTask s.plan op task
+
 -- the laws of histories that the report and the cause of a task rest on
 pub record HistoryLaws : Type 0 where
-  pub task : (s : Settings) (done : List Bool) (history : List Entry) (m : Machine) (op task : ℕ) → Replays s done history m
-      → m.ended ≡ Some (Broken op task) → IsTask s.plan op task
+  pub task : TaskLaw
   pub exactly : (s : Settings) (done : List Bool) (history : List Entry) (m : Machine) (op task : ℕ) → Replays s done history m
       → IsTask s.plan op task → m.ended ≡ Some (Broken op task) → count_of_task is_failed op task history ≡ s.retries + 1
   pub undone : (s : Settings) (done : List Bool) (history : List Entry) (m : Machine) (op task : ℕ) → Replays s done history m
@@ -201,6 +205,21 @@ module _ (c : RunCase) (job : Job) (laws : PlanLaws c job) (start : Shown) (spar
           let few = few_of_task is_failed op task t.history in
           let rose = rose_since (count_kind is_failed t.history) ends.driven.rose in
           omega (arith, exactly, few, rose)
+
+-- ---- a task that ended the run is one of an operation of the plan
+
+of_table : TaskLaw → (first now : TableView) (old new : Shown) (o : Outcome) → HasDriven first now old new o → IsOfOps first.settings.plan o
+of_table tasks first now old new ended.Complete d = tt
+of_table tasks first now old new (ended.Broken op task) d =
+    subst (λ (s : Settings). op < length s.plan.ops) d.settings
+    (tasks now.settings now.done now.history now.state op task d.legal d.decided).operation
+of_table tasks first now old new (ended.BadChunk key got want) d = tt
+of_table tasks first now old new ended.Lacked d = tt
+
+pub of_ops : TaskLaw → (p : PlanView) (first : TableView) (old new : Shown) (result : Result RunEnd RunFault) → first.settings.plan ≡ p
+    → IfOk result (λ e. HasDriven first e.table old new e.outcome) → IfOk result (λ e. IsOfOps p e.outcome)
+of_ops tasks p first old new (Ok e) same d = subst (λ (q : PlanView). IsOfOps q e.outcome) same (of_table tasks first e.table old new e.outcome d)
+of_ops tasks p first old new (Err f) same d = tt
 
 -- ---- what is told of the run
 

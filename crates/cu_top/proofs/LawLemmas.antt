@@ -19,9 +19,9 @@ use Rattle.cu_top.specs.Begin.{WasBegun}
 use Rattle.cu_top.specs.Drop.{IsDropping, Dropped}
 use Rattle.cu_top.specs.Held.{IsNotReopened}
 use Rattle.cu_top.specs.Laws.{IsOfPlan}
-use Rattle.cu_top.specs.Parts.{IsPartRun, WasParted}
+use Rattle.cu_top.specs.Parts.{IsPartRun, WasParted, inner_part}
 use Rattle.cu_top.specs.Resume.{IsResumed, WasResumed}
-use Rattle.cu_top.specs.Run.{RunCase, job_run, IsSpared, IsStarted, WasRefused, Ran}
+use Rattle.cu_top.specs.Run.{RunCase, job_run, plan_in, IsSpared, IsStarted, WasRefused, Ran}
 
 of_step : (r : PlanRun) (old new : Shown) → Stepped (CommandChange r old) old new → IsCommand r old new
 of_step r old new step = (0, step.calls, step.step)
@@ -106,26 +106,26 @@ module _ (c : RunCase) where
   begin_is_command NoMemory (inr (job, begun, rest)) = started_command job begun.started
   begin_is_command status why = refused_command status why
 
-  module _ (q : Part) where
-    parted_command : (job : Job) → IsPartRun c job q → IsOfPlan c
-    parted_command job parted =
-        let step = parted.step in
-        inr (
-          job,
-          parted.reopened.accepted,
-          put_command job (stepped (change_alone (job_run c job) c.old.depot 0 step.calls c.old.depot c.new.depot
-              (steps_wider (parts_run (job_run c job).plan parted.reopened.sound q parted.part c.old.depot) (omega arith) (omega arith) step.step))),
-        )
+  parted_command : (q : Part) (job : Job) → IsPartRun c job q → IsOfPlan c
+  parted_command q job parted =
+      let step = parted.step in
+      inr (
+        job,
+        parted.reopened.accepted,
+        put_command job (stepped (change_alone (job_run c job) c.old.depot 0 step.calls c.old.depot c.new.depot
+            (steps_wider (parts_run (job_run c job).plan parted.reopened.sound q parted.part c.old.depot) (omega arith) (omega arith) step.step))),
+      )
 
+  module _ (q : Part) where
     pub part_is_command : (status : Status) → WasParted c q status → IsOfPlan c
-    part_is_command Done (job, parted, rest) = parted_command job parted
-    part_is_command WriteFault (rose, (job, parted, rest)) = parted_command job parted
+    part_is_command Done (job, parted, rest) = parted_command (inner_part (plan_in c job) q) job parted
+    part_is_command WriteFault (rose, (job, parted, rest)) = parted_command (inner_part (plan_in c job) q) job parted
     part_is_command (NoTasks op tasks) (spared, rest) = inl spared
     part_is_command (NotReady op task) (spared, rest) = inl spared
-    part_is_command (TaskFailed op task) (job, parted, rest) = parted_command job parted
-    part_is_command (BadChunk key got want) (job, parted, rest) = parted_command job parted
+    part_is_command (TaskFailed op task) (job, parted, rest) = parted_command (inner_part (plan_in c job) q) job parted
+    part_is_command (BadChunk key got want) (job, parted, rest) = parted_command (inner_part (plan_in c job) q) job parted
     part_is_command (DepotFailed key) (inl unasked) = unopened_command (DepotFailed key) unasked
     part_is_command (DepotFailed key) (inr (spared, rest)) = inl spared
     part_is_command NoMemory (inl spared) = inl spared
-    part_is_command NoMemory (inr (job, parted, rest)) = parted_command job parted
+    part_is_command NoMemory (inr (job, parted, rest)) = parted_command (inner_part (plan_in c job) q) job parted
     part_is_command status why = unopened_command status why

@@ -21,6 +21,7 @@ mod DriveLemmas
 mod DropLemmas
 mod FewFailures
 mod HeldLemmas
+mod InnerNumbers
 mod LawLemmas
 mod PartServed
 mod PartsLemmas
@@ -29,6 +30,7 @@ mod PlannedLemmas
 mod PrepareLemmas
 mod RecordExample
 mod RecordLemmas
+mod RecordVersions
 mod ReopenLemmas
 mod ResumeServed
 mod RunLemmas

@@ -37,7 +37,7 @@ use Rattle.cu_top.specs.Answered.{NothingFailed}
 use Rattle.cu_top.specs.Complete.{HasPartReady, IsLeftRecorded, IsPartCause, IsPartReady}
 use Rattle.cu_top.specs.Complete.{IsResumable, IsServed}
 use Rattle.cu_top.specs.Held.{IsNotReopened}
-use Rattle.cu_top.specs.Parts.{IsPartRun, PartTells, WasParted, asking_in}
+use Rattle.cu_top.specs.Parts.{IsPartRun, PartTells, WasParted, asking_in, inner_part}
 use Rattle.cu_top.specs.Prepare.{is_own_input}
 use Rattle.cu_top.specs.Record.{record_text}
 use Rattle.cu_top.specs.Run.{Scene, RunCase, case, plan_in, job_run, env_of}
@@ -73,6 +73,10 @@ module _ (c : RunCase) (q : Part) (entry : Contents) (told : c.old.depot.held �
     (typable : IsTypable c.old.depot c.text)
     (rest : (job : Job) → IsJob c.old.depot c.text job
     → IsLeftRecorded c.options job entry c.old.depot) where
+  -- the part, by the number that its operation has among all
+  abbrev inner : Job → Part
+  inner job = inner_part (plan_in c job) q
+
   -- the plan is found again
   turned : (status : Status) → IsNotReopened c status → MayFail status
   turned (DepotFailed key) why = tt
@@ -113,8 +117,8 @@ module _ (c : RunCase) (q : Part) (entry : Contents) (told : c.old.depot.held �
     (
       same,
       parted.part,
-      chosen_inside (asking_in c job q) c.new.depot w task was,
-      chosen_lacked (asking_in c job q) c.new.depot w task was,
+      chosen_inside (asking_in c job (inner job)) c.new.depot w task was,
+      chosen_lacked (asking_in c job (inner job)) c.new.depot w task was,
     ),
   )
   part_cause (BadChunk key got want) (job, parted, why) =
@@ -125,7 +129,7 @@ module _ (c : RunCase) (q : Part) (entry : Contents) (told : c.old.depot.held �
   part_cause status why = absurd (turned status why)
 
   module _ (ready : (job : Job) → IsJob c.old.depot c.text job
-      → IsPartReady (plan_in c job) q entry)
+      → IsPartReady (plan_in c job) (inner job) entry)
       (depot : StoodStill c.old.depot.faults c.new.depot.faults)
       (sink : StoodStill c.old.sink.faults c.new.sink.faults) where
     no_tries : Rose (c.options.retries + 1) c.old.depot.faults c.new.depot.faults → ⊥
@@ -134,9 +138,9 @@ module _ (c : RunCase) (q : Part) (entry : Contents) (told : c.old.depot.held �
         rose
 
     -- a task that lacks a chunk has each made chunk that it reads
-    never_early : (job : Job) → IsPartRun c job q → (task : ℕ) → IsInPart q task
-        → LacksChunk (plan_in c job) q.op task c.old.depot
-        → LacksInput (plan_in c job) q.op task c.old.depot → ⊥
+    never_early : (job : Job) → IsPartRun c job (inner job) → (task : ℕ) → IsInPart q task
+        → LacksChunk (plan_in c job) (inner job).op task c.old.depot
+        → LacksInput (plan_in c job) (inner job).op task c.old.depot → ⊥
     never_early job parted task within lacks wants =
         elim ((ready job parted.reopened.accepted).ready task within) [
           | inl stored ↦ lacks entry told stored
@@ -146,19 +150,20 @@ module _ (c : RunCase) (q : Part) (entry : Contents) (told : c.old.depot.held �
               none_or_some (entry key) bytes none is
         ]
 
-    run_step : (job : Job) → IsPartRun c job q
+    run_step : (job : Job) → IsPartRun c job (inner job)
         → Stepped (RunChange (job_run c job) c.old.depot) c.old.depot c.new.depot
     run_step job parted =
         let sound = parted.reopened.sound in
-        let runs = parts_run (job_run c job).plan sound q parted.part c.old.depot in
+        let runs = parts_run (job_run c job).plan sound (inner job) parted.part c.old.depot in
         let calls = parted.step.calls in
         stepped (change_alone (job_run c job) c.old.depot 0 calls c.old.depot c.new.depot
         (steps_wider runs (omega arith) (omega arith) parted.step.step))
 
     -- a chunk that a task of the part reads isn't bad
-    never_spoilt : (job : Job) → IsPartRun c job q → (key : List ℕ) (got want task : ℕ)
+    never_spoilt : (job : Job) → IsPartRun c job (inner job) → (key : List ℕ) (got want task : ℕ)
         → IsInPart q task
-        → IsBadOf (plan_in c job) (task_id q.op task) (c.old.depot, c.new.depot) key got want → ⊥
+        → IsBadOf (plan_in c job) (task_id (inner job).op task) (c.old.depot, c.new.depot) key got want
+        → ⊥
     never_spoilt job parted key got want task within (bad, input) =
         let back = parted.reopened in
         let left = (rest job back.accepted).left in
@@ -169,7 +174,7 @@ module _ (c : RunCase) (q : Part) (entry : Contents) (told : c.old.depot.held �
         (λ k bytes chunk among.
         ap (λ (h : Contents). h (key_of (plan_in c job).arrays k)) (sym same)
         ∙ left.quiet.inputs k bytes chunk among)
-        key got want q.op task parted.part.operation (omega (arith, few, below)) bad
+        key got want (inner job).op task parted.part.operation (omega (arith, few, below)) bad
         (λ k listed chunk bytes is.
         (ready job back.accepted).whole task k bytes within listed chunk is)
         (input (env_of c job entry)
@@ -189,7 +194,7 @@ module _ (c : RunCase) (q : Part) (entry : Contents) (told : c.old.depot.held �
         no_tries (omega (arith, rose, earlier))
     part_served (BadChunk key got want) (job, parted, (w, task, was, bad)) =
         never_spoilt job parted key got want task
-        (chosen_inside (asking_in c job q) c.new.depot w task was) bad
+        (chosen_inside (asking_in c job (inner job)) c.new.depot w task was) bad
     part_served (DepotFailed key) (inl why) = no_tries why.0
     part_served (DepotFailed key) (inr (spared, (job, parted, why))) = no_tries why.0
     part_served status why = absurd (turned status why)

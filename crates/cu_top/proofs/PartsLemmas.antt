@@ -1,5 +1,5 @@
 -- What a part of a plan comes to that was found again.
-use Rattle.std.proofs.Common.{◌≡◌, ◌⊎◌, inl, inr, ℕ, ◌+◌, ◌*◌, ◌<◌, ◌≤◌, Bool, List, length, All, Option, Some, None, Result, Ok, Err, refl, sym, ◌∙◌, subst, arith}
+use Rattle.std.proofs.Common.{◌≡◌, ◌⊎◌, inl, inr, ap, ℕ, ◌+◌, ◌*◌, ◌<◌, ◌≤◌, Bool, List, length, All, Option, Some, None, Result, Ok, Err, refl, sym, ◌∙◌, subst, arith}
 use Rattle.std.proofs.lemmas.List.Elements.{All-weaker}
 use Rattle.cu_store.specs.Faults.{last_count, Rose}
 use Rattle.cu_store.specs.Held.{Contents, IsHeldIn}
@@ -7,6 +7,7 @@ use Rattle.cu_store.specs.Steps.{Shown, NoChange, Steps, Within}
 use Rattle.cu_store.proofs.Steps.{steps_none, steps_then, steps_wider}
 use Rattle.cu_name.specs.Keys.{record_key_of}
 use Rattle.cu_op.specs.PlanView.{PlanView}
+use Rattle.cu_op.specs.Within.{listed_number}
 use Rattle.cu_op.specs.Sound.{Sound}
 use Rattle.cu_op.specs.Elements.{Elements}
 use Rattle.cu_run_law.specs.Left.{IsLeft, RunChange}
@@ -29,10 +30,11 @@ use Rattle.cu_command.specs.declared.status.Status.{Status}
 use Rattle.cu_command.specs.declared.status.Status.TheVariants.{Done, TaskFailed, WriteFault, BadChunk, OtherPlan, NoPlan, DepotFailed, NoTasks, NotReady, NoMemory}
 use Rattle.cu_top.specs.Calls.{ReopenWithin}
 use Rattle.cu_top.specs.Held.{IsNotReopened, IsReopened, WhereEntryTold}
-use Rattle.cu_top.specs.Parts.{IsPartRun, PartCalled, PartWithin, WasParted, WithinRecord, part_fault_answer, part_line, asking_in, tasks_at}
+use Rattle.cu_top.specs.Parts.{IsPartRun, PartCalled, PartWithin, WasParted, WithinRecord, inner_number, inner_part, part_fault_answer, part_line, asking_in, tasks_at}
 use Rattle.cu_top.specs.Planned.{plan_calls}
 use Rattle.cu_top.specs.Run.{RunCase, plan_in, job_run, env_of, IsSpared, WroteTo}
 use Rattle.cu_top.proofs.DriveLemmas.{PlanLaws, kept}
+use Rattle.cu_top.proofs.InnerNumbers.{number_of}
 use Rattle.cu_top.proofs.ReopenLemmas.{text_held}
 
 -- ---- from where the part begins back to where the command did
@@ -124,7 +126,11 @@ module _ (p : PlanView) (sound : Sound p) (q : Part) (part : IsPartOf p q) (firs
 
 module _ (c : RunCase) (job : Job) (laws : PlanLaws c job) (mid : Shown) (spared : Stepped NoChange c.old.depot mid) (back : IsReopened c job)
     (opens_at : WhereEntryTold c job (λ env. IsLeft (job_run c job) env c.old.depot)) (known : IsHeldIn mid.held (record_key_of job.expr.store_as))
-    (q : Part) (result : Result PartCounts PartFault) (told : PartTold (plan_in c job) q (c.options.retries + 1) mid c.new.depot result) where
+    (given : Part) (result : Result PartCounts PartFault) (told : PartTold (plan_in c job) (inner_part (plan_in c job) given) (c.options.retries + 1) mid c.new.depot result) where
+  -- the part, by the number that its operation has among all
+  abbrev q : Part
+  q = inner_part (plan_in c job) given
+
   run_change : Steps (RunChange (job_run c job) mid) 0 last_count mid c.new.depot
   run_change =
       change_alone (job_run c job) mid 0 last_count mid c.new.depot
@@ -153,14 +159,14 @@ module _ (c : RunCase) (job : Job) (laws : PlanLaws c job) (mid : Shown) (spared
   ends : IsPartEnd (asking_in c job q) c.new.depot result
   ends = end_old (plan_in c job) q (c.options.retries + 1) c.old.depot mid spared c.new.depot result told.end
 
-  pub parted_done : (n : PartCounts) → result ≡ Ok n → WroteTo c (part_line (plan_in c job) q n) (length (part_line (plan_in c job) q n)) → WasParted c q Done
+  pub parted_done : (n : PartCounts) → result ≡ Ok n → WroteTo c (part_line (plan_in c job) q n) (length (part_line (plan_in c job) q n)) → WasParted c given Done
   parted_done n is wrote = (job, is_parted, (n, subst (IsPartEnd (asking_in c job q) c.new.depot) is ends, wrote))
 
   pub parted_unreported : (n : PartCounts) → result ≡ Ok n → Rose 1 c.old.sink.faults c.new.sink.faults
-      → ((k : ℕ) × (k ≤ length (part_line (plan_in c job) q n)) × WroteTo c (part_line (plan_in c job) q n) k) → WasParted c q WriteFault
+      → ((k : ℕ) × (k ≤ length (part_line (plan_in c job) q n)) × WroteTo c (part_line (plan_in c job) q n) k) → WasParted c given WriteFault
   parted_unreported n is rose wrote = (rose, (job, is_parted, (n, subst (IsPartEnd (asking_in c job q) c.new.depot) is ends, wrote)))
 
-  by_fault : (f : PartFault) → IsPartFault (asking_in c job q) c.new.depot f → WasParted c q (part_fault_answer q.op f)
+  by_fault : (f : PartFault) → IsPartFault (asking_in c job q) c.new.depot f → WasParted c given (part_fault_answer given.op f)
   by_fault (fault.Failed key) (why, step) = inr (stepped step, (job, is_parted, why))
   by_fault (fault.NotReady task) (why, step) = (stepped step, (job, is_parted, (refl, why)))
   by_fault (fault.Broken task) why = (job, is_parted, (refl, why))
@@ -168,7 +174,7 @@ module _ (c : RunCase) (job : Job) (laws : PlanLaws c job) (mid : Shown) (spared
   by_fault fault.NoMemory (inl step) = inl (stepped step)
   by_fault fault.NoMemory (inr lacks) = inr (job, is_parted, lacks)
 
-  pub parted_ended : (f : PartFault) → result ≡ Err f → WasParted c q (part_fault_answer q.op f)
+  pub parted_ended : (f : PartFault) → result ≡ Err f → WasParted c given (part_fault_answer given.op f)
   parted_ended f is = by_fault f (subst (IsPartEnd (asking_in c job q) c.new.depot) is ends)
 
   -- ---- calls
@@ -184,22 +190,42 @@ module _ (c : RunCase) (job : Job) (laws : PlanLaws c job) (mid : Shown) (spared
     calls = let more = told.calls.calls in omega (arith, first, more);
   }
 
-  pub parted_within_done : WithinCalls (plan_calls (c.options.retries + 1) c.text + (c.options.retries + 1)) c.old.depot mid → PartWithin c q Done
+  pub parted_within_done : WithinCalls (plan_calls (c.options.retries + 1) c.text + (c.options.retries + 1)) c.old.depot mid → PartWithin c given Done
   parted_within_done first = inr (job, back.accepted, (back.planned, inr (part_called first)))
 
-  pub parted_within_unreported : WithinCalls (plan_calls (c.options.retries + 1) c.text + (c.options.retries + 1)) c.old.depot mid → PartWithin c q WriteFault
+  pub parted_within_unreported : WithinCalls (plan_calls (c.options.retries + 1) c.text + (c.options.retries + 1)) c.old.depot mid → PartWithin c given WriteFault
   parted_within_unreported first = inr (job, back.accepted, (back.planned, inr (part_called first)))
 
-  pub parted_within_ended : WithinCalls (plan_calls (c.options.retries + 1) c.text + (c.options.retries + 1)) c.old.depot mid → (f : PartFault) → PartWithin c q (part_fault_answer q.op f)
+  pub parted_within_ended : WithinCalls (plan_calls (c.options.retries + 1) c.text + (c.options.retries + 1)) c.old.depot mid → (f : PartFault) → PartWithin c given (part_fault_answer given.op f)
   parted_within_ended first (fault.Failed key) = inr (job, back.accepted, (back.planned, inr (part_called first)))
   parted_within_ended first (fault.NotReady task) = inr (job, back.accepted, (back.planned, inr (part_called first)))
   parted_within_ended first (fault.Broken task) = inr (job, back.accepted, (back.planned, inr (part_called first)))
   parted_within_ended first (fault.BadChunk key got want) = inr (job, back.accepted, (back.planned, inr (part_called first)))
   parted_within_ended first fault.NoMemory = inr (job, back.accepted, (back.planned, inr (part_called first)))
 
+-- ---- the numbers of a part
+
+module _ (p r : PlanView) (own given : Part) (same : p ≡ r) where
+  -- where the plan has a part, the number that was given is that of its operation among those whose results are stored
+  pub own_number : own ≡ inner_part r given → IsPartOf p own → listed_number p own.op ≡ given.op
+  own_number is part =
+      let part_of : IsPartOf r (inner_part r given) = subst (λ (x : PlanView). IsPartOf x (inner_part r given)) same (subst (IsPartOf p) is part) in
+      ap (λ (q : Part). listed_number p q.op) is ∙ ap (λ (x : PlanView). listed_number x (inner_number r given.op)) same
+      ∙ (number_of r given.op part_of.operation).0
+
+  module _ (is : own ≡ inner_part p given) where
+    pub no_part_of : (IsPartOf p own → ⊥) → IsPartOf r (inner_part r given) → ⊥
+    no_part_of none =
+        subst (λ (x : PlanView). IsPartOf x (inner_part x given) → ⊥) same
+        (subst (λ (q : Part). IsPartOf p q → ⊥) is none)
+
+    pub tasks_inner : tasks_at p own.op ≡ tasks_at r (inner_number r given.op)
+    tasks_inner = ap (λ (q : Part). tasks_at p q.op) is ∙ ap (λ (x : PlanView). tasks_at x (inner_number x given.op)) same
+
 -- ---- a part that isn't one of the plan, and a plan that isn't found again
 
-pub no_part : (c : RunCase) (job : Job) (q : Part) → IsSpared c → IsReopened c job → (IsPartOf (plan_in c job) q → ⊥) → WasParted c q (NoTasks q.op (tasks_at (plan_in c job) q.op))
+pub no_part : (c : RunCase) (job : Job) (q : Part) → IsSpared c → IsReopened c job → (IsPartOf (plan_in c job) (inner_part (plan_in c job) q) → ⊥)
+    → WasParted c q (NoTasks q.op (tasks_at (plan_in c job) (inner_number (plan_in c job) q.op)))
 no_part c job q spared back none = (spared, (job, back, refl, refl, none))
 
 pub no_part_within : (c : RunCase) (job : Job) (q : Part) (op tasks : ℕ) → IsReopened c job → WithinRecord c → PartWithin c q (NoTasks op tasks)

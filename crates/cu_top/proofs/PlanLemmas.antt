@@ -1,9 +1,8 @@
 -- The plan of a job: what its tasks are lent, its names, and what its output holds.
-use Rattle.std.proofs.Common.{◌≡◌, ◌≢◌, ℕ, ◌<◌, ◌≤◌, ℤ, pos, true, List, length, Option, Some, None, refl, sym, ap, ◌∙◌, subst, inl, inr, get_or, true≢false}
+use Rattle.std.proofs.Common.{◌≡◌, ◌≢◌, ℕ, ◌<◌, ◌≤◌, ℤ, pos, true, false, List, length, Option, Some, None, refl, sym, ap, ◌∙◌, subst, inl, inr, get_or, true≢false}
 use Rattle.std.specs.Prelude.{slice_get, unwrap_or}
 use Rattle.std.proofs.lemmas.Slice.Eq.{bytes_eq-Decides}
 use Rattle.std.proofs.lemmas.List.Folds.{list_any_at}
-use Rattle.std.proofs.lemmas.List.{get_or_default}
 use Rattle.std.proofs.lemmas.Option.{get_or_from_slice_get, slice_get_cases}
 use Rattle.cu_shape.specs.Index.{IsInside, quotients}
 use Rattle.cu_grid.proofs.Parting.{has_coordinate, lies_within}
@@ -19,17 +18,16 @@ use Rattle.cu_lower.specs.Premises.{IsLowerable, IsLiveInput, IsOutput, OutputDi
 use Rattle.cu_lower.specs.declared.options.Options.{Options}
 use Rattle.cu_op.specs.declared.layout.ArrayInfo.{ArrayInfo}
 use Rattle.cu_op.specs.declared.layout.Layout.{Layout}
-use Rattle.cu_op.specs.declared.operation.Planned.{Planned}
-use Rattle.cu_op.specs.Arrays.{array_at, layout_at, grid_at, maker_at}
+use Rattle.cu_op.specs.Arrays.{array_at, layout_at, grid_at, is_inlined, maker_at}
 use Rattle.cu_op.specs.Chunks.{cell}
 use Rattle.cu_op.specs.Layout.{layout_view}
-use Rattle.cu_op.specs.PlanView.{PlanView, operation_at, no_operation}
-use Rattle.cu_op.specs.Projection.{projection}
+use Rattle.cu_op.specs.PlanView.{PlanView, operation_at}
 use Rattle.cu_op.specs.Sound.{Sound}
 use Rattle.cu_op.specs.Elements.{Elements}
 use Rattle.cu_op.specs.Value.{plan_value, stored_inputs}
 use Rattle.cu_op.proofs.Plans.{grid_ok}
 use Rattle.cu_op.proofs.Spellings.{defined_at}
+use Rattle.cu_run_law.proofs.Reading.{out_stored}
 use Rattle.cu_run_law.specs.Left.{IsLeft}
 use Rattle.cu_run_law.specs.Pieces.{PlanRun, Chunk, IsComplete}
 use Rattle.cu_store.specs.Held.{Contents}
@@ -44,9 +42,7 @@ use Rattle.cu_check.specs.Elements.{used_element, elements_of}
 -- ---- what tasks are lent
 
 pub lent_within : (p : PlanView) → Sound p → ((j : ℕ) → j < length p.ops → (operation_at p.ops j).projected ≤ p.allowed) → IsLentWithin p
-lent_within p sound few k d below =
-    let o = sound.operations k below in
-    subst (λ (x : Planned). (x.projected ≡ projection p.arrays p.reserved x.op) × (x.projected ≤ p.allowed)) (get_or_default p.ops k no_operation d below) (o.projected, few k below)
+lent_within p sound few k below = (sound.projections k below, few k below)
 
 -- ---- names
 
@@ -69,14 +65,14 @@ differs e apart k name i same =
 
 -- ---- the output
 
--- in a complete run each element of a made array has a value
+-- in a complete run each element of a made array that is stored has a value
 complete_value : (r : PlanRun) (env : Elements) (shown : Shown) (a : ℕ) (idx : List ℕ) → Sound r.plan → IsComplete r env shown → a < length r.plan.arrays → maker_at r.plan.arrays a ≢ None
-    → IsInside (grid_at r.plan.arrays a).shape idx → (x : ℤ) × (plan_value r.plan env a idx ≡ Some x)
-complete_value r env shown a idx sound complete within made inside =
+    → is_inlined r.plan.arrays a ≡ false → IsInside (grid_at r.plan.arrays a).shape idx → (x : ℤ) × (plan_value r.plan env a idx ≡ Some x)
+complete_value r env shown a idx sound complete within made stored inside =
     let g = grid_at r.plan.arrays a in
     let ok = grid_ok r.plan a sound within in
     let here = has_coordinate g idx ok inside in
-    let (bytes, value, holds) = complete (Chunk (cell a (quotients idx g.chunk))) (record { within = within; made = made; coordinate = here }) in
+    let (bytes, value, holds) = complete (Chunk (cell a (quotients idx g.chunk))) (record { within = within; made = made; stored = stored; coordinate = here }) in
     defined_at (layout_at r.plan.arrays a) (plan_value r.plan env a) (quotients idx g.chunk) idx bytes ok here value (lies_within g idx ok inside)
 
 -- the laws of a plan's arrays and values
@@ -95,7 +91,7 @@ ValueLaw = (e : Expression) (infos : List NodeInfo) (inputs : List InputInfo) (o
 
 abbrev pub ElementsLaw : Type 0
 ElementsLaw = (r : PlanRun) (env : Elements) (shown : Shown) (a : ℕ) (idx : List ℕ) (left : IsLeft r env shown) → IsComplete r env shown
-    → a < length r.plan.arrays → maker_at r.plan.arrays a ≢ None → IsInside (grid_at r.plan.arrays a).shape idx
+    → a < length r.plan.arrays → maker_at r.plan.arrays a ≢ None → is_inlined r.plan.arrays a ≡ false → IsInside (grid_at r.plan.arrays a).shape idx
     → stored_inputs r.plan.arrays left.held a idx ≡ plan_value r.plan env a idx
 
 -- the element of a live input node is that of its array
@@ -122,9 +118,10 @@ module _ (c : RunCase) (job : Job) (planned : HasPlan c.options job) (inputs : I
       let a = (plan_in c job).out in
       let within = left.sound.out in
       let place : IsInside (grid_at (plan_in c job).arrays a).shape idx = subst (λ (l : Layout). IsInside l.grid.shape idx) (sym is.layout) inside in
-      let (x, valued) = complete_value (job_run c job) (env_of c job entry) shown a idx left.sound complete within is.made place in
+      let out = out_stored (plan_in c job) left.sound in
+      let (x, valued) = complete_value (job_run c job) (env_of c job entry) shown a idx left.sound complete within is.made out place in
       let means = value job.expr job.types job.inputs.items c.options (env_of c job entry) (elements_of job entry) idx x (have_elements entry shown left) inside valued in
-      let stored = elements (job_run c job) (env_of c job entry) shown a idx left complete within is.made place in
+      let stored = elements (job_run c job) (env_of c job entry) shown a idx left complete within is.made out place in
       stored_is (array_at (plan_in c job).arrays a) (out_layout job) job.expr.store_as left.held idx is.layout is.name ∙ stored ∙ valued ∙ ap Some means
     where
       stored_is : (a : ArrayInfo) (l : Layout) (name : List ℕ) (held : Contents) (idx : List ℕ) → a.layout ≡ l → a.prefix ≡ name

@@ -311,7 +311,7 @@ module _ (c : RunCase) (job : Job) (laws : PlanLaws c job) (start : Shown) (spar
         let at_first = (goes.opened (plan_in c job) done op task).1 (named entry told op task is all) in
         goes.undone (settings_of c job) done t.history t.state op task legal ends.driven.decided (goes.remains (settings_of c job) (opening done) t.history t.state op task legal.1 at_first)
 
-    resume_by : (o : Outcome) (t : TableView) → HasEnded (started_case c job laws start spared held done lack) o t → ResumeEnded lack c job (outcome_answer o (run_counts_in t.history))
+    resume_by : (o : Outcome) (t : TableView) → HasEnded (started_case c job laws start spared held done lack) o t → ResumeEnded lack c job (outcome_answer (plan_in c job) o (run_counts_in t.history))
     resume_by ended.Complete t ends = (
       resumed,
       stored c job laws start spared held done lack step (λ entry told left. ends.complete (env_of c job entry) (left_start c job laws start spared entry told left)),
@@ -324,6 +324,8 @@ module _ (c : RunCase) (job : Job) (laws : PlanLaws c job) (start : Shown) (spar
             job,
             resumed,
             (
+              op,
+              refl,
               is.operation,
               is.number,
               absent_at_first t op task ends,
@@ -356,7 +358,7 @@ module _ (c : RunCase) (job : Job) (laws : PlanLaws c job) (start : Shown) (spar
   -- what a run that goes on comes to
   pub resume_ended : AreHeld held (job_run c job) start.held → ((now : Contents) → start.held ≡ Some now → IsFound (plan_in c job) now done)
       → ((entry : Contents) → c.old.depot.held ≡ Some entry → NamesStored (plan_in c job) entry done) → (result : Result RunEnd RunFault)
-      → Driven (started_case c job laws start spared held done lack) result → ResumeEnded lack c job (drive_answer (record_key_of job.expr.store_as) result)
+      → Driven (started_case c job laws start spared held done lack) result → ResumeEnded lack c job (drive_answer (record_key_of job.expr.store_as) (plan_in c job) result)
   resume_ended texts found named (Ok e) told = resume_by texts found named told.step e.outcome e.table told.ended
   resume_ended texts found named (Err f) told = unrun_resume texts found named told.step f told.unrun
 

@@ -1,5 +1,5 @@
 -- A run that goes on from its record: each other answer has a cause that isn't there.
-use Rattle.std.proofs.Common.{◌≡◌, ◌≢◌, ◌⊎◌, inl, inr, ℕ, ◌+◌, ◌<◌, List, length, Contains, Option, Some, None, Bool, refl, sym, ap, ◌∙◌, subst, arith}
+use Rattle.std.proofs.Common.{◌≡◌, ◌≢◌, ◌⊎◌, inl, inr, ℕ, ◌+◌, ◌<◌, List, length, Contains, Option, Some, None, Bool, false, refl, sym, ap, ◌∙◌, subst, arith}
 use Rattle.std.specs.Prelude.{slice_get}
 use Rattle.std.proofs.lemmas.List.Elements.{All-weaker}
 use Rattle.cu_store.specs.Held.{Contents, IsAmong}
@@ -9,12 +9,13 @@ use Rattle.cu_name.specs.Keys.{record_key_of}
 use Rattle.cu_expr.specs.declared.inputs.InputInfo.{InputInfo}
 use Rattle.cu_grid.specs.Grid.{IsCoordinate}
 use Rattle.cu_op.specs.declared.cells.Cell.{Cell}
-use Rattle.cu_op.specs.Arrays.{chunk_room, grid_at, maker_at}
+use Rattle.cu_op.specs.Arrays.{chunk_room, grid_at, is_inlined, maker_at}
 use Rattle.cu_op.specs.Cells.{tasks_of}
 use Rattle.cu_op.specs.Schedule.{op_of, key_of}
 use Rattle.cu_op.specs.Sound.{Sound}
-use Rattle.cu_op.specs.Walks.{read_chunks}
-use Rattle.cu_op.proofs.TaskCells.{fit_of, read_array}
+use Rattle.cu_op.specs.Within.{fetched_chunks}
+use Rattle.cu_op.proofs.Fetched.{fetched_stored}
+use Rattle.cu_op.proofs.Plans.{own_region}
 use Rattle.cu_region.specs.Steady.{HoldsLength}
 use Rattle.cu_run_law.specs.Left.{RunChange}
 use Rattle.cu_run_law.specs.Pieces.{Text, Chunk, IsInputChunk, IsPiece, KeysApart}
@@ -148,17 +149,18 @@ module _ (c : RunCase) (job : Job) (entry : Contents) (told : c.old.depot.held �
   -- a chunk that a task reads isn't of another length, if it is whole where it is an input's
   pub never_bad : (key : List ℕ) (got want : ℕ) (op task : ℕ) → op < length (plan_in c job).ops → task < tasks_of (plan_in c job).arrays (op_of (plan_in c job) op)
       → IsBadRead (plan_in c job) (task_id op task) c.new.depot key got want
-      → ((k : Cell) → Contains (read_chunks (plan_in c job).arrays (op_of (plan_in c job) op) task) k → IsInputChunk (plan_in c job).arrays k → IsWhole k) → IsInputKey (plan_in c job) key → ⊥
+      → ((k : Cell) → Contains (fetched_chunks (plan_in c job) op task) k → IsInputChunk (plan_in c job).arrays k → IsWhole k) → IsInputKey (plan_in c job) key → ⊥
   never_bad key got want op task first number (k, listed, is_key, is_want, differ, holds) whole of_input =
-      let read = read_array (plan_in c job) sound op (op_of (plan_in c job) op) (fit_of (plan_in c job) sound op first) task k number listed in
-      by_maker (maker_at (plan_in c job).arrays k.array) refl read.1.0 read.1.1
+      let (chunk, stored) = fetched_stored (plan_in c job) sound op task k first (own_region (plan_in c job).arrays (op_of (plan_in c job) op) task number) listed in
+      by_maker (maker_at (plan_in c job).arrays k.array) refl stored chunk.0 chunk.1
     where
-      by_maker : (m : Option ℕ) → maker_at (plan_in c job).arrays k.array ≡ m → (k.array < length (plan_in c job).arrays) → IsCoordinate (grid_at (plan_in c job).arrays k.array) k.coord → ⊥
-      by_maker None given within coordinate =
+      by_maker : (m : Option ℕ) → maker_at (plan_in c job).arrays k.array ≡ m → is_inlined (plan_in c job).arrays k.array ≡ false → (k.array < length (plan_in c job).arrays)
+          → IsCoordinate (grid_at (plan_in c job).arrays k.array) k.coord → ⊥
+      by_maker None given stored within coordinate =
           let input : IsInputChunk (plan_in c job).arrays k = record { within = within; given = given; coordinate = coordinate } in
           whole_input k key got want input (whole k listed input) is_key is_want differ holds
-      by_maker (Some n) made within coordinate =
-          not_made k key (record { within = within; made = λ none. none_or_some (maker_at (plan_in c job).arrays k.array) n none made; coordinate = coordinate }) is_key of_input
+      by_maker (Some n) made stored within coordinate =
+          not_made k key (record { within = within; made = λ none. none_or_some (maker_at (plan_in c job).arrays k.array) n none made; stored = stored; coordinate = coordinate }) is_key of_input
 
 pub some_same : (a b : Contents) → ◌≡◌ {A = Option Contents} (Some a) (Some b) → a ≡ b
 some_same a b e = cc

@@ -198,7 +198,7 @@ module _ (c : RunCase) (job : Job) (laws : PlanLaws c job) (start : Shown) (clea
           )
 
       -- what a run comes to whose tasks were run
-      ended_by : (o : Outcome) (t : TableView) → HasEnded (started_case c job laws start cleared.spared Neither none lack) o t → Ended lack c job (outcome_answer o (run_counts_in t.history))
+      ended_by : (o : Outcome) (t : TableView) → HasEnded (started_case c job laws start cleared.spared Neither none lack) o t → Ended lack c job (outcome_answer (plan_in c job) o (run_counts_in t.history))
       ended_by ended.Complete t ends = (
         run_started,
         stored c job laws start cleared.spared Neither none lack step (λ entry is calm. ends.complete (env_of c job entry) (left_start c job laws start cleared.spared entry is calm)),
@@ -211,6 +211,8 @@ module _ (c : RunCase) (job : Job) (laws : PlanLaws c job) (start : Shown) (clea
               job,
               run_started,
               (
+                op,
+                refl,
                 is.operation,
                 is.number,
                 λ entry k held listed. All-contains (IsFree entry) (asked_keys c.options job) (key_of (plan_in c job).arrays k) (cleared.free entry held) (written_key c job op task k is.operation is.number listed),
@@ -271,7 +273,7 @@ module _ (c : RunCase) (job : Job) (laws : PlanLaws c job) (start : Shown) (clea
 
     -- what a run comes to
     pub run_ended : (result : Result RunEnd RunFault) → Driven (started_case c job laws start cleared.spared Neither none lack) result
-        → Ended lack c job (drive_answer (record_key_of job.expr.store_as) result)
+        → Ended lack c job (drive_answer (record_key_of job.expr.store_as) (plan_in c job) result)
     run_ended (Ok e) told = ended_by told.step told.first e.outcome e.table told.ended
     run_ended (Err f) told = unrun_by told.step told.first f told.unrun
 
@@ -295,14 +297,14 @@ prints_nothing WriteFault written = tt
 prints_nothing status written = refl
 
 -- a run that was started and isn't complete ends by one of four answers
-pub stopped_of : (key : List ℕ) (result : Result RunEnd RunFault) → IfErr (drive_answer key result) IsStop
-stopped_of key (Ok e) = by_outcome e.outcome (run_counts_in e.table.history)
+pub stopped_of : (key : List ℕ) (p : PlanView) (result : Result RunEnd RunFault) → IfErr (drive_answer key p result) IsStop
+stopped_of key p (Ok e) = by_outcome e.outcome (run_counts_in e.table.history)
   where
-    by_outcome : (o : Outcome) (counts : RunCounts) → IfErr (outcome_answer o counts) IsStop
+    by_outcome : (o : Outcome) (counts : RunCounts) → IfErr (outcome_answer p o counts) IsStop
     by_outcome ended.Complete counts = tt
     by_outcome (ended.Broken op task) counts = tt
     by_outcome (ended.BadChunk key got want) counts = tt
     by_outcome ended.Lacked counts = tt
-stopped_of key (Err (text.TextFailed other)) = tt
-stopped_of key (Err text.ShareFailed) = tt
-stopped_of key (Err text.NoMemory) = tt
+stopped_of key p (Err (text.TextFailed other)) = tt
+stopped_of key p (Err text.ShareFailed) = tt
+stopped_of key p (Err text.NoMemory) = tt

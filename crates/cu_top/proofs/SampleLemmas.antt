@@ -135,8 +135,8 @@ keys_are = refl
 
 abbrev pub copy_arrays : List ArrayInfo
 copy_arrays =
-    record { prefix = codes "x"; layout = sample_layout; maker = None }
-    ∷ record { prefix = codes "y"; layout = made_layout (info_of Int16 (7 ∷ []) (3 ∷ [])); maker = Some 0 } ∷ []
+    record { prefix = codes "x"; layout = sample_layout; maker = None; inlined = false }
+    ∷ record { prefix = codes "y"; layout = made_layout (info_of Int16 (7 ∷ []) (3 ∷ [])); maker = Some 0; inlined = false } ∷ []
 
 pub arrays_are : copy_plan.arrays ≡ copy_arrays
 unfolding merged_plan_of

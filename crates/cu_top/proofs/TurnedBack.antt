@@ -13,7 +13,8 @@ use Rattle.cu_work.specs.declared.part.Part.{Part}
 use Rattle.cu_top.specs.Complete.{HasNoSuchTasks, IsTurnedBack, IsUnrecorded, RanNoPart}
 use Rattle.cu_top.specs.Drop.{DropTells}
 use Rattle.cu_top.specs.Held.{IsReopened}
-use Rattle.cu_top.specs.Parts.{IsPartRun, PartTells}
+use Rattle.cu_top.specs.Parts.{IsPartRun, PartTells, inner_part}
+use Rattle.cu_top.specs.Prepare.{job_plan}
 use Rattle.cu_top.specs.Resume.{ResumeTells}
 use Rattle.cu_top.specs.Run.{Scene, case}
 
@@ -28,7 +29,7 @@ module _ (o : Options) (old new : Scene) (left : List ℕ) (told_left : old.sour
 -- ---- a plan that hasn't the tasks
 
 module _ (o : Options) (old new : Scene) (left : List ℕ) (told_left : old.source.told ≡ Some left) (q : Part) (none : HasNoSuchTasks o q left old.depot) where
-  no_part : (text : List ℕ) (job : Job) → ReadsAll old.source.told new.source.told text → IsPartRun (case o text old new) job q → ⊥
+  no_part : (text : List ℕ) (job : Job) → ReadsAll old.source.told new.source.told text → IsPartRun (case o text old new) job (inner_part (job_plan o job) q) → ⊥
   no_part text job read parted = none job (own_job o old new left told_left text job read parted.reopened) parted.part
 
   pub part_lacking : (status : Status) → PartTells o q old new status → RanNoPart status

@@ -3,19 +3,19 @@ use Rattle.std.proofs.Common.{◌≡◌, [], ◌∷◌, true, false, codes, Ok, 
 use Rattle.cu_words.specs.Words.{line_given}
 use Rattle.cu_top.specs.Words.{command_of, run, resume, drop, plan, load, check, print, begin, part}
 
-allowed : command_of (codes "run" ∷ codes "--allowed-mem" ∷ codes "1600" ∷ []) ≡ Ok (run (record { allowed = 1600; reserved = 0; split_every = 4; retries = 2; workers = 1; backups = false }))
+allowed : command_of (codes "run" ∷ codes "--allowed-mem" ∷ codes "1600" ∷ []) ≡ Ok (run (record { allowed = 1600; reserved = 0; split_every = 4; retries = 2; workers = 1; backups = false; fusion = 1 }))
 unfolding command_of line_given
 allowed = refl
 
-defaults : command_of (codes "run" ∷ []) ≡ Ok (run (record { allowed = 200000000; reserved = 0; split_every = 4; retries = 2; workers = 1; backups = false }))
+defaults : command_of (codes "run" ∷ []) ≡ Ok (run (record { allowed = 200000000; reserved = 0; split_every = 4; retries = 2; workers = 1; backups = false; fusion = 1 }))
 unfolding command_of line_given
 defaults = refl
 
-both : command_of (codes "run" ∷ codes "--reserved-mem" ∷ codes "+7" ∷ codes "--allowed-mem" ∷ codes "01" ∷ []) ≡ Ok (run (record { allowed = 1; reserved = 7; split_every = 4; retries = 2; workers = 1; backups = false }))
+both : command_of (codes "run" ∷ codes "--reserved-mem" ∷ codes "+7" ∷ codes "--allowed-mem" ∷ codes "01" ∷ []) ≡ Ok (run (record { allowed = 1; reserved = 7; split_every = 4; retries = 2; workers = 1; backups = false; fusion = 1 }))
 unfolding command_of line_given
 both = refl
 
-most : command_of (codes "run" ∷ codes "--allowed-mem" ∷ codes "1099511627776" ∷ []) ≡ Ok (run (record { allowed = 1099511627776; reserved = 0; split_every = 4; retries = 2; workers = 1; backups = false }))
+most : command_of (codes "run" ∷ codes "--allowed-mem" ∷ codes "1099511627776" ∷ []) ≡ Ok (run (record { allowed = 1099511627776; reserved = 0; split_every = 4; retries = 2; workers = 1; backups = false; fusion = 1 }))
 unfolding command_of line_given
 most = refl
 
@@ -51,7 +51,7 @@ empty_number : command_of (codes "run" ∷ codes "--allowed-mem" ∷ codes "+" �
 unfolding command_of line_given
 empty_number = refl
 
-retried : command_of (codes "run" ∷ codes "--retries" ∷ codes "8" ∷ []) ≡ Ok (run (record { allowed = 200000000; reserved = 0; split_every = 4; retries = 8; workers = 1; backups = false }))
+retried : command_of (codes "run" ∷ codes "--retries" ∷ codes "8" ∷ []) ≡ Ok (run (record { allowed = 200000000; reserved = 0; split_every = 4; retries = 8; workers = 1; backups = false; fusion = 1 }))
 unfolding command_of line_given
 retried = refl
 
@@ -111,7 +111,7 @@ nothing_to_print : command_of (codes "print" ∷ []) ≡ Err 2
 unfolding command_of line_given
 nothing_to_print = refl
 
-split : command_of (codes "run" ∷ codes "--split-every" ∷ codes "2" ∷ []) ≡ Ok (run (record { allowed = 200000000; reserved = 0; split_every = 2; retries = 2; workers = 1; backups = false }))
+split : command_of (codes "run" ∷ codes "--split-every" ∷ codes "2" ∷ []) ≡ Ok (run (record { allowed = 200000000; reserved = 0; split_every = 2; retries = 2; workers = 1; backups = false; fusion = 1 }))
 unfolding command_of line_given
 split = refl
 
@@ -123,7 +123,7 @@ split_in_many : command_of (codes "run" ∷ codes "--split-every" ∷ codes "65"
 unfolding command_of line_given
 split_in_many = refl
 
-plans : command_of (codes "plan" ∷ codes "--allowed-mem" ∷ codes "64" ∷ []) ≡ Ok (plan (record { allowed = 64; reserved = 0; split_every = 4; retries = 2; workers = 1; backups = false }))
+plans : command_of (codes "plan" ∷ codes "--allowed-mem" ∷ codes "64" ∷ []) ≡ Ok (plan (record { allowed = 64; reserved = 0; split_every = 4; retries = 2; workers = 1; backups = false; fusion = 1 }))
 unfolding command_of line_given
 plans = refl
 
@@ -135,15 +135,15 @@ plans_no_name : command_of (codes "plan" ∷ codes "y" ∷ []) ≡ Err 2
 unfolding command_of line_given
 plans_no_name = refl
 
-workers : command_of (codes "run" ∷ codes "--workers" ∷ codes "64" ∷ codes "--backups=1" ∷ []) ≡ Ok (run (record { allowed = 200000000; reserved = 0; split_every = 4; retries = 2; workers = 64; backups = true }))
+workers : command_of (codes "run" ∷ codes "--workers" ∷ codes "64" ∷ codes "--backups=1" ∷ []) ≡ Ok (run (record { allowed = 200000000; reserved = 0; split_every = 4; retries = 2; workers = 64; backups = true; fusion = 1 }))
 unfolding command_of line_given
 workers = refl
 
-resumes : command_of (codes "resume" ∷ codes "--workers=4" ∷ []) ≡ Ok (resume (record { allowed = 200000000; reserved = 0; split_every = 4; retries = 2; workers = 4; backups = false }))
+resumes : command_of (codes "resume" ∷ codes "--workers=4" ∷ []) ≡ Ok (resume (record { allowed = 200000000; reserved = 0; split_every = 4; retries = 2; workers = 4; backups = false; fusion = 1 }))
 unfolding command_of line_given
 resumes = refl
 
-drops : command_of (codes "drop" ∷ codes "--retries" ∷ codes "0" ∷ []) ≡ Ok (drop (record { allowed = 200000000; reserved = 0; split_every = 4; retries = 0; workers = 1; backups = false }))
+drops : command_of (codes "drop" ∷ codes "--retries" ∷ codes "0" ∷ []) ≡ Ok (drop (record { allowed = 200000000; reserved = 0; split_every = 4; retries = 0; workers = 1; backups = false; fusion = 1 }))
 unfolding command_of line_given
 drops = refl
 
@@ -163,11 +163,11 @@ drops_with_no_sync : command_of (codes "drop" ∷ codes "--sync" ∷ codes "1" �
 unfolding command_of line_given
 drops_with_no_sync = refl
 
-begun : command_of (codes "begin" ∷ codes "--retries" ∷ codes "0" ∷ codes "--sync=0" ∷ []) ≡ Ok (begin (record { allowed = 200000000; reserved = 0; split_every = 4; retries = 0; workers = 1; backups = false }))
+begun : command_of (codes "begin" ∷ codes "--retries" ∷ codes "0" ∷ codes "--sync=0" ∷ []) ≡ Ok (begin (record { allowed = 200000000; reserved = 0; split_every = 4; retries = 0; workers = 1; backups = false; fusion = 1 }))
 unfolding command_of line_given
 begun = refl
 
-a_part : command_of (codes "part" ∷ codes "--op" ∷ codes "1" ∷ codes "--from" ∷ codes "0" ∷ codes "--to=64" ∷ []) ≡ Ok (part (record { allowed = 200000000; reserved = 0; split_every = 4; retries = 2; workers = 1; backups = false }) (record { op = 1; from = 0; to = 64 }))
+a_part : command_of (codes "part" ∷ codes "--op" ∷ codes "1" ∷ codes "--from" ∷ codes "0" ∷ codes "--to=64" ∷ []) ≡ Ok (part (record { allowed = 200000000; reserved = 0; split_every = 4; retries = 2; workers = 1; backups = false; fusion = 1 }) (record { op = 1; from = 0; to = 64 }))
 unfolding command_of line_given
 a_part = refl
 

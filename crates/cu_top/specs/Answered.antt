@@ -1,5 +1,6 @@
 -- What the call `top` answers: a record for each command, and in it a line for each answer, which
--- says what is so where this answer comes. This project's own rules.
+-- says what is so where this answer comes. An answer calls an operation by its number among those
+-- whose results are stored, and so do the words of a part. This project's own rules.
 use Rattle.std.specs.Prelude.{◌≡◌, ◌⊎◌, ℕ, ℤ, ◌+◌, Bool, List, Option, Some, Err}
 use Rattle.cu_check.specs.Check.{Checked, ChecksWithin, IsFoundEqual, IsUnequal, ReadsText}
 use Rattle.cu_command.specs.Job.{StoodStill}

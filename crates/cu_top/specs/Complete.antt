@@ -9,7 +9,7 @@ use Rattle.cu_op.specs.Arrays.{chunk_room}
 use Rattle.cu_op.specs.PlanView.{PlanView}
 use Rattle.cu_op.specs.Schedule.{op_of, key_of}
 use Rattle.cu_op.specs.Value.{stored_inputs}
-use Rattle.cu_op.specs.Walks.{read_chunks}
+use Rattle.cu_op.specs.Within.{fetched_chunks}
 use Rattle.cu_name.specs.Keys.{record_key_of}
 use Rattle.cu_run_law.specs.Left.{IsLeft}
 use Rattle.cu_run_law.specs.Pieces.{IsInputChunk}
@@ -27,7 +27,7 @@ use Rattle.cu_command.specs.declared.status.Status.TheVariants.{NoMemory}
 use Rattle.cu_lower.specs.declared.options.Options.{Options}
 use Rattle.cu_plan.specs.Refusal.{refusal_of}
 use Rattle.cu_top.specs.Held.{HasRecordOrLate}
-use Rattle.cu_top.specs.Parts.{tasks_at}
+use Rattle.cu_top.specs.Parts.{inner_number, inner_part, tasks_at}
 use Rattle.cu_top.specs.Prepare.{job_plan, asked_keys, HasNoOwnInput}
 use Rattle.cu_top.specs.Quiet.{run_of_job}
 use Rattle.cu_top.specs.Record.{record_text}
@@ -130,7 +130,7 @@ IsTurnedBack status = Unit {0}
 -- no plan of the text's job has these tasks
 abbrev pub HasNoSuchTasks : Options → Part → List ℕ → Shown → Type 0
 HasNoSuchTasks options q text old = (job : Job) → IsJob old text job
-    → IsPartOf (job_plan options job) q → ⊥
+    → IsPartOf (job_plan options job) (inner_part (job_plan options job) q) → ⊥
 
 -- nothing was answered that comes behind the record, unless that the plan hasn't the tasks
 abbrev pub RanNoPart : Status → Type 0
@@ -143,21 +143,23 @@ OfText old text fact = (job : Job) × IsJob old text job × fact job
 
 -- the plan of the text's job has these tasks
 abbrev pub HasTasks : Options → Part → List ℕ → Shown → Type 0
-HasTasks options q text old = OfText old text (λ job. IsPartOf (job_plan options job) q)
+HasTasks options q text old =
+    OfText old text (λ job. IsPartOf (job_plan options job) (inner_part (job_plan options job) q))
 
 -- A part of a plan that is found again fails by one of these alone. The plan hasn't these tasks. Or
 -- it has, and a task of the part lacked a chunk and a made input; or one failed that lacked a chunk;
 -- or a chunk is bad; or the sink failed. Or it is the source, the depot or want of memory.
 abbrev pub IsPartCause : Options → Part → List ℕ → Shown → Status → Type 0
 IsPartCause options q text old (NoTasks op tasks) = OfText old text (λ job. (op ≡ q.op)
-    × (tasks ≡ tasks_at (job_plan options job) q.op) × (IsPartOf (job_plan options job) q → ⊥))
+    × (tasks ≡ tasks_at (job_plan options job) (inner_number (job_plan options job) q.op))
+    × (IsPartOf (job_plan options job) (inner_part (job_plan options job) q) → ⊥))
 IsPartCause options q text old (NotReady op task) = OfText old text (λ job. (op ≡ q.op)
-    × IsPartOf (job_plan options job) q × IsInPart q task
-    × LacksChunk (job_plan options job) q.op task old
-    × LacksInput (job_plan options job) q.op task old)
+    × IsPartOf (job_plan options job) (inner_part (job_plan options job) q) × IsInPart q task
+    × LacksChunk (job_plan options job) (inner_number (job_plan options job) q.op) task old
+    × LacksInput (job_plan options job) (inner_number (job_plan options job) q.op) task old)
 IsPartCause options q text old (TaskFailed op task) = OfText old text (λ job. (op ≡ q.op)
-    × IsPartOf (job_plan options job) q × IsInPart q task
-    × LacksChunk (job_plan options job) q.op task old)
+    × IsPartOf (job_plan options job) (inner_part (job_plan options job) q) × IsInPart q task
+    × LacksChunk (job_plan options job) (inner_number (job_plan options job) q.op) task old)
 IsPartCause options q text old (BadChunk key got want) = HasTasks options q text old
 IsPartCause options q text old Done = HasTasks options q text old
 IsPartCause options q text old WriteFault = HasTasks options q text old
@@ -173,13 +175,13 @@ pub record IsPartReady (p : PlanView) (q : Part) (entry : Contents) : Type 0 whe
   pub ready : (task : ℕ) → IsInPart q task
       → IsStored p entry q.op task ⊎ HasInputs p q.op task (Some entry)
   pub whole : (task : ℕ) (k : Cell) (bytes : List ℕ) → IsInPart q task
-      → Contains (read_chunks p.arrays (op_of p q.op) task) k → IsInputChunk p.arrays k
+      → Contains (fetched_chunks p q.op task) k → IsInputChunk p.arrays k
       → entry (key_of p.arrays k) ≡ Some bytes → length bytes ≡ chunk_room p.arrays k.array
 
 -- so it is of the plan of the text's job
 abbrev pub HasPartReady : Options → Part → List ℕ → Contents → Shown → Type 0
 HasPartReady options q text entry old = (job : Job) → IsJob old text job
-    → IsPartReady (job_plan options job) q entry
+    → IsPartReady (job_plan options job) (inner_part (job_plan options job) q) entry
 
 -- ---- where few calls fail
 

@@ -1,10 +1,12 @@
 -- The tasks of an accepted plan: what their run is given, what it tells, and what it answers.
 -- This project's own rules.
-use Rattle.std.specs.Prelude.{◌≡◌, ◌⊎◌, Bool, IsTrue, ℕ, ◌+◌, ◌*◌, List, Option, Result, Ok, Err, IfOk, IfErr}
+use Rattle.std.specs.Prelude.{◌≡◌, ◌⊎◌, Bool, IsTrue, ℕ, ◌+◌, ◌*◌, ◌<◌, List, length, Option, Result, Ok, Err, IfOk, IfErr}
 use Rattle.cu_store.specs.Faults.{last_count, Rose}
 use Rattle.cu_store.specs.Held.{Contents, IsHeldIn}
 use Rattle.cu_store.specs.Steps.{Shown, Changes, NoChange, PutOf, Steps}
 use Rattle.cu_op.specs.Elements.{Elements}
+use Rattle.cu_op.specs.PlanView.{PlanView}
+use Rattle.cu_op.specs.Within.{listed_number}
 use Rattle.cu_history.specs.History.{is_start, is_failed, count_kind}
 use Rattle.cu_history.specs.declared.entry.Entry.{Entry}
 use Rattle.cu_lower.specs.declared.options.Options.{Options}
@@ -128,12 +130,18 @@ abbrev pub run_counts_in : List Entry → RunCounts
 run_counts_in history =
     record { starts = count_kind is_start history; failures = count_kind is_failed history }
 
--- the counts, where all tasks are done; else what is answered
-abbrev pub outcome_answer : Outcome → RunCounts → Result RunCounts Status
-outcome_answer ended.Complete counts = Ok counts
-outcome_answer (ended.Broken op task) counts = Err (TaskFailed op task)
-outcome_answer (ended.BadChunk key got want) counts = Err (BadChunk key got want)
-outcome_answer ended.Lacked counts = Err NoMemory
+-- a task that ended the run is one of an operation of the plan
+abbrev pub IsOfOps : PlanView → Outcome → Type 0
+IsOfOps p (ended.Broken op task) = op < length p.ops
+IsOfOps p o = Unit {0}
+
+-- the counts, where all tasks are done; else what is answered, which calls an operation by its number
+-- among those whose results are stored
+abbrev pub outcome_answer : PlanView → Outcome → RunCounts → Result RunCounts Status
+outcome_answer p ended.Complete counts = Ok counts
+outcome_answer p (ended.Broken op task) counts = Err (TaskFailed (listed_number p op) task)
+outcome_answer p (ended.BadChunk key got want) counts = Err (BadChunk key got want)
+outcome_answer p ended.Lacked counts = Err NoMemory
 
 -- what is answered where no task was run and the record has this key
 abbrev pub fault_answer : List ℕ → RunFault → Status
@@ -141,11 +149,12 @@ fault_answer of_record (text.TextFailed key) = DepotFailed key
 fault_answer of_record text.ShareFailed = DepotFailed of_record
 fault_answer of_record text.NoMemory = NoMemory
 
-abbrev pub drive_answer : List ℕ → Result RunEnd RunFault → Result RunCounts Status
-drive_answer of_record (Ok e) = outcome_answer e.outcome (run_counts_in e.table.history)
-drive_answer of_record (Err f) = Err (fault_answer of_record f)
+abbrev pub drive_answer : List ℕ → PlanView → Result RunEnd RunFault → Result RunCounts Status
+drive_answer of_record p (Ok e) = outcome_answer p e.outcome (run_counts_in e.table.history)
+drive_answer of_record p (Err f) = Err (fault_answer of_record f)
 
 -- the tasks were run, or not, and this is answered
 abbrev pub WasDriven : DriveCase → Result RunCounts Status → Type 0
 WasDriven d answer =
-    (result : Result RunEnd RunFault) × Driven d result × (answer ≡ drive_answer (text_at d.run 0).0 result)
+    (result : Result RunEnd RunFault) × Driven d result
+    × (answer ≡ drive_answer (text_at d.run 0).0 d.run.plan result)

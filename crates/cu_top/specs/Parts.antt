@@ -1,6 +1,6 @@
 -- What the command `part` answers, and what it leaves: it runs some tasks of one operation of a plan
 -- that was begun. This project's own rules.
-use Rattle.std.specs.Prelude.{◌≡◌, ◌⊎◌, ℕ, ◌+◌, ◌-◌, ◌*◌, ◌≤◌, Bool, IsTrue, nat_lt, if◌then◌else◌, List, [], ◌∷◌, ◌++◌, All, codes, length, Option, Some, None}
+use Rattle.std.specs.Prelude.{◌≡◌, ◌⊎◌, ℕ, ◌+◌, ◌-◌, ◌*◌, ◌≤◌, Bool, IsTrue, nat_lt, if◌then◌else◌, List, [], ◌∷◌, ◌++◌, All, codes, length, get_or, Option, Some, None}
 use Rattle.std.specs.Fmt.{decimal}
 use Rattle.cu_store.specs.Faults.{Rose}
 use Rattle.cu_op.specs.Cells.{tasks_of}
@@ -21,10 +21,24 @@ use Rattle.cu_command.specs.declared.job.Job.{Job}
 use Rattle.cu_command.specs.declared.status.Status.{Status}
 use Rattle.cu_command.specs.declared.status.Status.TheVariants.{Done, TaskFailed, ReadFault, WriteFault, BadChunk, OtherPlan, NoPlan, DepotFailed, NoTasks, NotReady, NoMemory}
 use Rattle.cu_lower.specs.declared.options.Options.{Options}
+use Rattle.cu_plan.specs.Listed.{listed}
 use Rattle.cu_top.specs.Call.{AreSpared, CameToRun, IsReadFault}
 use Rattle.cu_top.specs.Held.{IsNotReopened, IsReopened, IsUnasked, WhereEntryTold}
 use Rattle.cu_top.specs.Planned.{plan_calls}
 use Rattle.cu_top.specs.Run.{Scene, RunCase, plan_in, job_run, IsSpared, OfPlanned, WroteTo}
+
+-- ---- numbers
+
+-- The number, among all operations of the plan, of the operation with this number among those whose
+-- results are stored; where there is none, how many operations there are.
+abbrev pub inner_number : PlanView → ℕ → ℕ
+inner_number p op = get_or (listed p) op (length p.ops)
+
+-- the part with that number of its operation
+abbrev pub inner_part : PlanView → Part → Part
+inner_part p q = record { op = inner_number p q.op; from = q.from; to = q.to }
+
+-- ---- what is printed of a part, by the number among all operations
 
 -- how many tasks an operation has, 0 where there is none of this number
 abbrev pub tasks_at : PlanView → ℕ → ℕ
@@ -49,9 +63,10 @@ pub record IsPartRun (c : RunCase) (job : Job) (q : Part) : Type 0 where
   pub left : WhereEntryTold c job (λ env. IsLeft (job_run c job) env c.new.depot)
   pub recorded : WhereEntryTold c job (λ env. HoldsPiece (job_run c job) env (Text 0) c.new.depot)
 
--- such a part, with a fact of its job
-abbrev pub Parted : RunCase → Part → (Job → Type 0) → Type 0
-Parted c q fact = (job : Job) × IsPartRun c job q × fact job
+-- such a part, with a fact of its job and of the part by the number among all operations
+abbrev pub Parted : RunCase → Part → (Job → Part → Type 0) → Type 0
+Parted c q fact = (job : Job) × IsPartRun c job (inner_part (plan_in c job) q)
+    × fact job (inner_part (plan_in c job) q)
 
 -- what was looked for, from the moment at which the command began
 abbrev pub asking_in : RunCase → Job → Part → Asking
@@ -74,47 +89,48 @@ part_fault_answer op fault.NoMemory = NoMemory
 
 -- 0: the part is done, and the whole line was written
 abbrev pub IsPartedDone : RunCase → Part → Type 0
-IsPartedDone c q = Parted c q (λ job. (n : PartCounts) × RanPart c job q n
-    × WroteTo c (part_line (plan_in c job) q n) (length (part_line (plan_in c job) q n)))
+IsPartedDone c q = Parted c q (λ job part. (n : PartCounts) × RanPart c job part n
+    × WroteTo c (part_line (plan_in c job) part n) (length (part_line (plan_in c job) part n)))
 
 -- 12: the part is done, the sink failed, and a front of the line was written
 abbrev pub IsPartedUnreported : RunCase → Part → Type 0
 IsPartedUnreported c q = Rose 1 c.old.sink.faults c.new.sink.faults
-    × Parted c q (λ job. (n : PartCounts) × RanPart c job q n
-    × ((k : ℕ) × (k ≤ length (part_line (plan_in c job) q n)) × WroteTo c (part_line (plan_in c job) q n) k))
+    × Parted c q (λ job part. (n : PartCounts) × RanPart c job part n
+    × ((k : ℕ) × (k ≤ length (part_line (plan_in c job) part n)) × WroteTo c (part_line (plan_in c job) part n) k))
 
 -- 20: the plan was found again, and hasn't these tasks; nothing was stored
 abbrev pub HasNoTasks : RunCase → Part → ℕ → ℕ → Type 0
 HasNoTasks c q op tasks = IsSpared c × ((job : Job) × IsReopened c job × (op ≡ q.op)
-    × (tasks ≡ tasks_at (plan_in c job) q.op) × (IsPartOf (plan_in c job) q → ⊥))
+    × (tasks ≡ tasks_at (plan_in c job) (inner_number (plan_in c job) q.op))
+    × (IsPartOf (plan_in c job) (inner_part (plan_in c job) q) → ⊥))
 
 -- 21: this task lacked a chunk when the command began, and an input that an operation makes; it is the
 -- first of the part of which that is so, and nothing was stored
 abbrev pub IsTooEarly : RunCase → Part → ℕ → ℕ → Type 0
-IsTooEarly c q op task = IsSpared c × Parted c q (λ job. (op ≡ q.op)
-    × IsUnstarted (asking_in c job q) c.new.depot (fault.NotReady task))
+IsTooEarly c q op task = IsSpared c × Parted c q (λ job part. (op ≡ q.op)
+    × IsUnstarted (asking_in c job part) c.new.depot (fault.NotReady task))
 
 -- 10: all tries of this task failed, which was chosen, since it lacked a chunk when the command began
 -- and had the made inputs that it reads; the faults are counted from the choice on
 abbrev pub IsPartedBroken : RunCase → Part → ℕ → ℕ → Type 0
-IsPartedBroken c q op task = Parted c q (λ job. (op ≡ q.op)
-    × IsPartFault (asking_in c job q) c.new.depot (fault.Broken task))
+IsPartedBroken c q op task = Parted c q (λ job part. (op ≡ q.op)
+    × IsPartFault (asking_in c job part) c.new.depot (fault.Broken task))
 
 -- 13: this chunk of an input, which a task of the part reads that was chosen so, holds `got` bytes and
 -- not the `want` bytes of a chunk
 abbrev pub IsPartedBad : RunCase → Part → List ℕ → ℕ → ℕ → Type 0
-IsPartedBad c q key got want = Parted c q (λ job.
-    IsPartFault (asking_in c job q) c.new.depot (fault.BadChunk key got want))
+IsPartedBad c q key got want = Parted c q (λ job part.
+    IsPartFault (asking_in c job part) c.new.depot (fault.BadChunk key got want))
 
 -- 16: all calls for this key failed, and nothing was stored: the metadata's of an input in its turn, the
 -- record's, or that of a chunk that a task of the part writes or reads
 abbrev pub IsPartFailed : RunCase → Part → List ℕ → Type 0
 IsPartFailed c q key = IsUnasked c key
-    ⊎ (IsSpared c × Parted c q (λ job. IsUnstarted (asking_in c job q) c.new.depot (fault.Failed key)))
+    ⊎ (IsSpared c × Parted c q (λ job part. IsUnstarted (asking_in c job part) c.new.depot (fault.Failed key)))
 
 -- 70: nothing was stored; or the depot lacks memory
 abbrev pub IsPartShort : RunCase → Part → Type 0
-IsPartShort c q = IsSpared c ⊎ Parted c q (λ job. IsTrue c.new.depot.lacks)
+IsPartShort c q = IsSpared c ⊎ Parted c q (λ job part. IsTrue c.new.depot.lacks)
 
 -- what a part answers, from the text on
 abbrev pub WasParted : RunCase → Part → Status → Type 0
@@ -162,7 +178,7 @@ PartCalls c job q status = WithinRecord c ⊎ PartCalled c job q
 
 abbrev pub PartWithin : RunCase → Part → Status → Type 0
 PartWithin c q status = WithinCalls (plan_calls (c.options.retries + 1) c.text) c.old.depot c.new.depot
-    ⊎ OfPlanned c (λ job. PartCalls c job q status)
+    ⊎ OfPlanned c (λ job. PartCalls c job (inner_part (plan_in c job) q) status)
 
 -- the same of the text that was read; where none was, no call was made
 abbrev pub PartsWithin : Options → Part → Scene → Scene → Status → Type 0

@@ -1,5 +1,5 @@
 -- The plan of a job, why a job has none, and what its plan stores. This project's own rules.
-use Rattle.std.specs.Prelude.{◌≡◌, ◌≤◌, Bool, false, List, ◌∷◌, ℕ, All, length, bytes_eq, Some}
+use Rattle.std.specs.Prelude.{◌≡◌, ◌<◌, ◌≤◌, Bool, false, List, ◌∷◌, ℕ, length, bytes_eq, Some}
 use Rattle.std.specs.List.{list_any}
 use Rattle.cu_form.specs.Expression.{Expression}
 use Rattle.cu_form.specs.declared.form.Form.{Form}
@@ -9,7 +9,7 @@ use Rattle.cu_lower.specs.declared.options.Options.{Options}
 use Rattle.cu_name.specs.Keys.{record_key_of}
 use Rattle.cu_node.specs.Info.{info_at}
 use Rattle.cu_op.specs.Layout.{layout_view}
-use Rattle.cu_op.specs.PlanView.{PlanView}
+use Rattle.cu_op.specs.PlanView.{PlanView, operation_at}
 use Rattle.cu_op.specs.Projection.{projection}
 use Rattle.cu_op.specs.declared.layout.Layout.{Layout}
 use Rattle.cu_plan.specs.Plan.{merged_plan_of}
@@ -85,4 +85,5 @@ HasNoOwnInput e = is_own_input e ≡ false
 
 -- what each operation of the plan was projected to need is its projection, and at most what is allowed
 abbrev pub IsLentWithin : PlanView → Type 0
-IsLentWithin p = All (λ o. (o.projected ≡ projection p.arrays p.reserved o.op) × (o.projected ≤ p.allowed)) p.ops
+IsLentWithin p = (k : ℕ) → k < length p.ops
+    → ((operation_at p.ops k).projected ≡ projection p k) × ((operation_at p.ops k).projected ≤ p.allowed)

@@ -8,6 +8,7 @@ use Rattle.cu_name.specs.Keys.{record_key_of}
 use Rattle.cu_op.specs.Cells.{tasks_of}
 use Rattle.cu_op.specs.Schedule.{op_of, key_of}
 use Rattle.cu_op.specs.Walks.{written_chunks}
+use Rattle.cu_op.specs.Within.{listed_number}
 use Rattle.cu_op.specs.declared.cells.Cell.{Cell}
 use Rattle.cu_history.specs.History.{is_start, count_of_task}
 use Rattle.cu_history.specs.declared.entry.Entry.{Entry}
@@ -146,12 +147,14 @@ abbrev pub IsResumedUnreported : RunCase → Type 0
 IsResumedUnreported c = Rose 1 c.old.sink.faults c.new.sink.faults
     × Resumed c (λ job. HoldsAll c job × CountedOn c job (λ line. (n : ℕ) × (n ≤ length line) × WroteTo c line n))
 
--- 10: this task ended the run, and one of its chunks was absent when the command began
+-- 10: this task of the operation that has this number among those whose results are stored ended the run, and one of its chunks was
+-- absent when the command began
 abbrev pub IsResumedBroken : RunCase → ℕ → ℕ → Type 0
 IsResumedBroken c op task = Rose (c.options.retries + 1) c.old.depot.faults c.new.depot.faults
-    × Resumed c (λ job. (op < length (plan_in c job).ops) × (task < tasks_of (plan_in c job).arrays (op_of (plan_in c job) op))
-    × ((entry : Contents) → c.old.depot.held ≡ Some entry → IsStored (plan_in c job) entry op task → ⊥)
-    × HoldsTextsNow c job × WentOn c job (λ done history m. HasBroken c job op task history m))
+    × Resumed c (λ job. (k : ℕ) × (op ≡ listed_number (plan_in c job) k)
+    × (k < length (plan_in c job).ops) × (task < tasks_of (plan_in c job).arrays (op_of (plan_in c job) k))
+    × ((entry : Contents) → c.old.depot.held ≡ Some entry → IsStored (plan_in c job) entry k task → ⊥)
+    × HoldsTextsNow c job × WentOn c job (λ done history m. HasBroken c job k task history m))
 
 -- 13: this chunk of an input, which a task reads, holds `got` bytes and not the `want` bytes of a chunk
 abbrev pub IsResumedBad : RunCase → List ℕ → ℕ → ℕ → Type 0

@@ -16,6 +16,7 @@ use Rattle.cu_op.specs.Sound.{Sound}
 use Rattle.cu_op.specs.Elements.{Elements}
 use Rattle.cu_op.specs.Value.{stored_inputs}
 use Rattle.cu_op.specs.Walks.{written_chunks}
+use Rattle.cu_op.specs.Within.{listed_number}
 use Rattle.cu_semantics.specs.Argument.{shape_of_node}
 use Rattle.cu_semantics.specs.Meaning.{meaning_of}
 use Rattle.cu_lower.specs.declared.options.Options.{Options}
@@ -217,14 +218,15 @@ abbrev pub HasBroken : RunCase → Job → ℕ → ℕ → List Entry → Machin
 HasBroken c job op task history m = (m.ended ≡ Some (Broken op task)) × (count_of_task is_failed op task history ≡ c.options.retries + 1) × (count_of_task is_done op task history ≡ 0)
     × WhereLeft c job (λ env. HoldsDone (job_run c job) env m c.new.depot)
 
--- 10: this task of this operation ended the run, and its chunks were absent when the run began. Where the contents were told and the
--- premise holds, the texts are held.
+-- 10: this task of the operation that has this number among those whose results are stored ended the run, and its chunks were absent
+-- when the run began. Where the contents were told and the premise holds, the texts are held.
 abbrev pub IsTaskFailed : RunCase → ℕ → ℕ → Type 0
 IsTaskFailed c op task = Rose (c.options.retries + 1) c.old.depot.faults c.new.depot.faults
-    × Started c (λ job. (op < length (plan_in c job).ops) × (task < tasks_of (plan_in c job).arrays (op_of (plan_in c job) op))
-    × ((entry : Contents) (k : Cell) → c.old.depot.held ≡ Some entry → Contains (written_chunks (plan_in c job).arrays (op_of (plan_in c job) op) task) k
-    → entry (key_of (plan_in c job).arrays k) ≡ None)
-    × HoldsBoth c job × WasRun c job (HasBroken c job op task))
+    × Started c (λ job. (k : ℕ) × (op ≡ listed_number (plan_in c job) k)
+    × (k < length (plan_in c job).ops) × (task < tasks_of (plan_in c job).arrays (op_of (plan_in c job) k))
+    × ((entry : Contents) (chunk : Cell) → c.old.depot.held ≡ Some entry → Contains (written_chunks (plan_in c job).arrays (op_of (plan_in c job) k) task) chunk
+    → entry (key_of (plan_in c job).arrays chunk) ≡ None)
+    × HoldsBoth c job × WasRun c job (HasBroken c job k task))
 
 -- 13: this chunk, which a task reads, holds `got` bytes and not the `want` bytes of a chunk. Where the contents were told and the premise
 -- holds, it is an input's, and the texts are held.

@@ -76,6 +76,7 @@ sample_options = record {
   retries = 2;
   workers = 1;
   backups = false;
+  fusion = 1;
 }
 
 -- the words of a run, of one that is only begun, and of a plan

@@ -20,6 +20,8 @@ pub record IsInRange (o : Options) : Type 0 where
   pub retries : o.retries ≤ 8
   pub some : 1 ≤ o.workers
   pub few : o.workers ≤ 64
+  pub first : 1 ≤ o.fusion
+  pub last : o.fusion ≤ 2
 
 -- the options among the numbers of the line
 abbrev pub options_among : Numbers → Options
@@ -30,6 +32,7 @@ options_among n = record {
   retries = n.retries;
   workers = n.workers;
   backups = n.backups == 1;
+  fusion = n.fusion;
 }
 
 -- and the operation and the tasks that they name

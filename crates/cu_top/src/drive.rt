@@ -7,7 +7,7 @@ ghost use Rattle.cu_work.specs.Shared.{IsOpen, IsMemoryFor};
 ghost use Rattle.cu_work.specs.World.{IsFound};
 ghost use Rattle.cu_command.specs.declared.status.Status.TheVariants.{Done};
 ghost use Rattle.cu_top.specs.Calls.{DriveWithin};
-ghost use Rattle.cu_top.specs.Driven.{AreHeld, HasPlanAndTexts, WasDriven, drive_answer};
+ghost use Rattle.cu_top.specs.Driven.{AreHeld, HasPlanAndTexts, IsOfOps, WasDriven, drive_answer};
 ghost use Rattle.cu_top.specs.Driven.{drive_case, fault_answer, outcome_answer, run_options};
 ghost use Rattle.cu_top.specs.Limits.{WithinStarts};
 ghost use Rattle.cu_top.specs.Prepare.{job_plan, HasPlan};
@@ -20,9 +20,10 @@ use crate::report::{RunCounts, counts_of};
 use cu_command::{Job, Status};
 use cu_lower::Options;
 use cu_meta::write_meta;
-use cu_op::Plan;
+use cu_op::{Plan, listed_number};
 use cu_plan::merged_plan_law;
 use cu_store::{Gate, Key, NoMemory, Share};
+use cu_table::broken_law;
 use cu_work::{HeldTexts, Outcome, RunEnd, RunFault, RunMemory, RunOptions, Texts, run_plan};
 use std::alloc::Global;
 use std::sync::Wait;
@@ -80,13 +81,18 @@ pub fn run_options(options: &Options) -> RunOptions
     }
 }
 
-/// The counts, where all tasks are done; else what is answered.
-fn outcome_answer(outcome: Outcome, counts: RunCounts) -> Result<RunCounts, Status>
-    ensures { result ≡ outcome_answer outcome counts }
+/// The counts, where all tasks are done; else what is answered, which calls an operation by its number
+/// among those whose results are stored.
+fn outcome_answer(plan: &Plan, outcome: Outcome, counts: RunCounts) -> Result<RunCounts, Status>
+    requires { IsOfOps plan.now outcome }
+    ensures { result ≡ outcome_answer plan.now outcome counts }
 {
     match outcome {
         Outcome::Complete => Ok(counts),
-        Outcome::Broken { op, task } => Err(Status::TaskFailed { op, task }),
+        Outcome::Broken { op, task } => Err(Status::TaskFailed {
+            op: listed_number(plan, op),
+            task,
+        }),
         Outcome::BadChunk { key, got, want } => Err(Status::BadChunk { key, got, want }),
         Outcome::Lacked => Err(Status::NoMemory),
     }
@@ -104,11 +110,16 @@ fn fault_answer(of_record: &Key, fault: RunFault) -> Status
 }
 
 /// What is answered where the run of the tasks ended so.
-fn drive_answer(of_record: &Key, ended: Result<RunEnd, RunFault>) -> Result<RunCounts, Status>
-    ensures { result ≡ drive_answer of_record.now ended }
+fn drive_answer(
+    of_record: &Key,
+    plan: &Plan,
+    ended: Result<RunEnd, RunFault>,
+) -> Result<RunCounts, Status>
+    requires { IfOk ended (λ e. IsOfOps plan.now e.outcome) }
+    ensures { result ≡ drive_answer of_record.now plan.now ended }
 {
     match ended {
-        Ok(end) => outcome_answer(end.outcome, counts_of(end.table.history())),
+        Ok(end) => outcome_answer(plan, end.outcome, counts_of(end.table.history())),
         Err(fault) => Err(fault_answer(of_record, fault)),
     }
 }
@@ -144,6 +155,7 @@ pub fn drive_plan<H: Threads + Wait + Sync, D: Share, G: Gate>(
     ensures stopped_calls { IfErr result (DriveWithin options.now ready.now.job held
         (D.shown depot.old) (D.shown depot.new)) }
 {
+    broken_law();
     let keys = text_keys(&ready.job.expr);
     let texts = Texts {
         record_key: keys.record,
@@ -163,5 +175,5 @@ pub fn drive_plan<H: Threads + Wait + Sync, D: Share, G: Gate>(
         &how,
         gate,
     );
-    drive_answer(&keys.record, ended)
+    drive_answer(&keys.record, &ready.plan, ended)
 }

@@ -1,11 +1,15 @@
 //! Laws of the commands: calls that do nothing and whose clauses are the laws.
-ghost use Rattle.std.specs.Prelude.{◌≡◌, ◌∷◌, [], ℕ, Bool, List, All, Some, Ok, codes};
+ghost use Rattle.std.specs.Prelude.{◌≡◌, ◌≢◌, ◌<◌, ◌∷◌, [], ℕ, Bool, true, List, All, Some, Ok, codes, length};
 ghost use Rattle.cu_store.specs.Steps.{Shown};
 ghost use Rattle.cu_op.specs.Elements.{Elements};
+ghost use Rattle.cu_op.specs.PlanView.{PlanView};
+ghost use Rattle.cu_op.specs.Within.{is_listed, listed_number};
 ghost use Rattle.cu_run_law.specs.Left.{IsLeft};
 ghost use Rattle.cu_run_law.specs.Pieces.{PlanRun};
 ghost use Rattle.cu_work.specs.Commands.{AreCommands, IsCommand};
+ghost use Rattle.cu_command.specs.declared.job.Job.{Job};
 ghost use Rattle.cu_command.specs.declared.status.Status.{Status};
+ghost use Rattle.cu_lower.specs.declared.options.Options.{Options};
 ghost use Rattle.cu_region.specs.Steady.{IsSteady};
 ghost use Rattle.cu_check.specs.Arrays.{IsReadChunk};
 ghost use Rattle.cu_load.specs.Load.{IsArrayCalm};
@@ -15,8 +19,10 @@ ghost use Rattle.cu_top.specs.Begin.{WasBegun};
 ghost use Rattle.cu_top.specs.Complete.{HasPartReady, HasWholeInputs, IsBeginnable, IsPlannable, IsResumable, IsServable};
 ghost use Rattle.cu_top.specs.Demo.{IsDemoAtRest, IsDemoCalm};
 ghost use Rattle.cu_top.specs.Drop.{Dropped};
+ghost use Rattle.cu_top.specs.Held.{TextsDifferAt};
 ghost use Rattle.cu_top.specs.Laws.{IsOfPlan};
-ghost use Rattle.cu_top.specs.Parts.{WasParted};
+ghost use Rattle.cu_top.specs.Parts.{WasParted, inner_number};
+ghost use Rattle.cu_top.specs.Record.{before_version, record_text, record_version};
 ghost use Rattle.cu_top.specs.Resume.{WasResumed};
 ghost use Rattle.cu_top.specs.Run.{RunCase, IsSpared, Ran};
 ghost use Rattle.cu_top.specs.Sample.{demo_options, empty_held, empty_shown, left_held, left_shown};
@@ -44,6 +50,26 @@ pub fn list_law()
 {
     commands_law();
 }
+
+/// An operation whose result is stored is called by its number among those operations. That number leads
+/// to it, and each number that leads to an operation is the number of one whose result is stored.
+pub fn numbers_law()
+    ensures inner { (p : PlanView) (k : ℕ) → k < length p.ops → is_listed p k ≡ true
+        → inner_number p (listed_number p k) ≡ k }
+    ensures listed { (p : PlanView) (op : ℕ) → inner_number p op < length p.ops
+        → (listed_number p (inner_number p op) ≡ op) × (is_listed p (inner_number p op) ≡ true) }
+{}
+
+/// Two records, of plans whose tasks may need the same memory, differ first at the byte of their
+/// version, where they have different ones. Texts differ first at one byte alone. So `part`, `resume`
+/// and `drop` refuse a record of the other version at this byte, whatever it is the record of.
+pub fn record_law()
+    ensures version { (o other : Options) (a b : Job) → o.allowed ≡ other.allowed
+        → record_version o ≢ record_version other
+        → TextsDifferAt (record_text o a) (record_text other b) (length (before_version o)) }
+    ensures once { (a b : List ℕ) (place other : ℕ) → TextsDifferAt a b place → TextsDifferAt a b other
+        → place ≡ other }
+{}
 
 /// The premises of the commands are met by a small store, which holds the metadata and one chunk of an array, and where a put of this
 /// chunk is late: `run` is served there, and so are `plan` and, where the record is held too, `resume`; what is late carries what `load`

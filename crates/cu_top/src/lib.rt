@@ -23,5 +23,5 @@ mod words;
 
 pub use call::top;
 pub use cu_command::{LineText, Status, number, status_line};
-pub use laws::{list_law, premises_law};
+pub use laws::{list_law, numbers_law, premises_law, record_law};
 pub use versions::versions_law;

@@ -5,7 +5,8 @@ ghost use Rattle.cu_command.specs.Seen.{Stream, stream};
 ghost use Rattle.cu_command.specs.Streams.{WroteFront};
 ghost use Rattle.cu_work.specs.Part.{IsPartOf};
 ghost use Rattle.cu_top.specs.Held.{IsLeftEntry};
-ghost use Rattle.cu_top.specs.Parts.{PartWithin, WasParted, part_fault_answer, part_line, tasks_at};
+ghost use Rattle.cu_top.specs.Parts.{PartWithin, WasParted, inner_number, inner_part};
+ghost use Rattle.cu_top.specs.Parts.{part_fault_answer, part_line, tasks_at};
 ghost use Rattle.cu_top.specs.Run.{scene, case, PrintsOnly};
 ghost use Rattle.cu_top.specs.Words.{IsInRange, part_numbers};
 
@@ -13,12 +14,40 @@ use crate::held::reopen;
 use crate::words::PartNumbers;
 use cu_command::{LineText, Status, push_field, write_all};
 use cu_lower::Options;
-use cu_op::{Plan, tasks};
+use cu_op::{Plan, is_listed, listed_number, tasks};
 use cu_plan::merged_plan_law;
 use cu_run_law::{complete_law, left_law};
 use cu_store::{Depot, Failed, Sink};
 use cu_work::{Part, PartCounts, PartFault, run_part};
 use std::alloc::Global;
+
+/// The number, among all operations, of the one with this number among those whose results are stored:
+/// how many operations there are where there is no such operation.
+fn inner_number(plan: &Plan, number: u64) -> u64
+    ensures { result ≡ inner_number plan.now number }
+{
+    let mut before: u64 = 0;
+    for op in 0..plan.ops().len() as u32 {
+        if is_listed(plan, op) {
+            if before == number {
+                return u64::from(op);
+            }
+            before += 1;
+        }
+    }
+    plan.ops().len() as u64
+}
+
+/// The same tasks, with the number that their operation has among all.
+fn inner_numbers(plan: &Plan, numbers: &PartNumbers) -> PartNumbers
+    ensures { part_numbers result ≡ inner_part plan.now (part_numbers numbers.now) }
+{
+    PartNumbers {
+        op: inner_number(plan, numbers.op),
+        from: numbers.from,
+        to: numbers.to,
+    }
+}
 
 /// How many tasks the operation of this number has: none where there is no such operation.
 fn tasks_at(plan: &Plan, op: u64) -> u64
@@ -96,7 +125,8 @@ fn part_fault_answer(op: u32, fault: PartFault) -> Status
 }
 
 /// Runs those tasks of an operation whose numbers are given and whose chunks aren't all held, and writes
-/// the report. The text is refused as that of a run that goes on, up to the record.
+/// the report. The operation is called by its number among those whose results are stored. The text is
+/// refused as that of a run that goes on, up to the record.
 pub fn store_part<W: Sink, D: Depot>(
     alloc: Global,
     options: &Options,
@@ -123,8 +153,9 @@ pub fn store_part<W: Sink, D: Depot>(
         Ok(ready) => ready,
         Err(status) => return status,
     };
-    let Some(part) = part_of(&ready.plan, numbers) else {
-        let tasks = tasks_at(&ready.plan, numbers.op);
+    let inner = inner_numbers(&ready.plan, numbers);
+    let Some(part) = part_of(&ready.plan, &inner) else {
+        let tasks = tasks_at(&ready.plan, inner.op);
         return Status::NoTasks {
             op: numbers.op,
             tasks,
@@ -135,6 +166,6 @@ pub fn store_part<W: Sink, D: Depot>(
             Ok(()) => Status::Done,
             Err(_) => Status::WriteFault,
         },
-        Err(fault) => part_fault_answer(part.op, fault),
+        Err(fault) => part_fault_answer(listed_number(&ready.plan, part.op), fault),
     }
 }

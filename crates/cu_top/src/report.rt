@@ -2,12 +2,13 @@
 ghost use Rattle.std.specs.Prelude.{◌≡◌, ℕ, ◌≤◌, length, OnOk, OnErr};
 ghost use Rattle.cu_store.specs.Faults.{Rose};
 ghost use Rattle.cu_history.specs.History.{is_start, is_failed, count_kind};
+ghost use Rattle.cu_plan.specs.Listed.{listed};
 ghost use Rattle.cu_command.specs.Streams.{WroteFront};
 ghost use Rattle.cu_top.specs.Report.{report_line};
 
 use cu_command::{LineText, push_field, write_all};
 use cu_history::Entry;
-use cu_op::Plan;
+use cu_op::{Plan, listed_number};
 use cu_plan::{peak, task_count};
 use cu_store::{Failed, Sink};
 use cu_work::{failures, starts};
@@ -30,13 +31,20 @@ pub fn counts_of(history: &[Entry]) -> RunCounts
     }
 }
 
+/// How many operations of a plan have a stored result.
+fn listed_count(plan: &Plan) -> u64
+    ensures { result ≡ length (listed plan.now) }
+{
+    u64::from(listed_number(plan, plan.ops().len() as u32))
+}
+
 /// The line that reports a run of the plan whose tasks were started and failed so often.
 #[tactic(auto, unfolding(crate::specs::Report::report_line))]
 pub fn report_text(plan: &Plan, counts: &RunCounts) -> LineText
     ensures { result.bytes ≡ report_line plan.now counts.now }
 {
     let mut line = LineText::new();
-    push_field(&mut line, "ok ops=", plan.ops().len() as u64);
+    push_field(&mut line, "ok ops=", listed_count(plan));
     push_field(&mut line, " tasks=", task_count(plan));
     push_field(&mut line, " starts=", counts.starts);
     push_field(&mut line, " failed=", counts.failures);

@@ -143,6 +143,7 @@ fn options_among(numbers: &Numbers) -> Options
         retries: numbers.retries as u32,
         workers: numbers.workers as u32,
         backups: numbers.backups == 1,
+        fusion: numbers.fusion as u32,
     }
 }
 

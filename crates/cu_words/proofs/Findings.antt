@@ -24,7 +24,7 @@ use Rattle.cu_words.specs.Reader.{IsFaultOf, IsMatched, IsParted, positional_nam
 use Rattle.cu_words.specs.declared.options.CommandName.{CommandName}
 use Rattle.cu_words.specs.declared.options.CommandName.TheVariants.{Run, Resume, Drop, Plan, Load, Check, Print, Demo, Begin, Part}
 use Rattle.cu_words.specs.declared.options.OptionName.{OptionName}
-use Rattle.cu_words.specs.declared.options.OptionName.TheVariants.{AllowedMem, ReservedMem, SplitEvery, Workers, Retries, Backups, Sync, Op, From, To}
+use Rattle.cu_words.specs.declared.options.OptionName.TheVariants.{AllowedMem, ReservedMem, SplitEvery, Fusion, Workers, Retries, Backups, Sync, Op, From, To}
 use Rattle.cu_words.proofs.Walks.{Agrees, EndsWell, else_left, else_right, is_known_part, row_with, rows_with, rules, same_text, equal_text, shape, total, walk_agrees, walk_at}
 
 -- ---- the values of a name
@@ -141,6 +141,7 @@ option_apart : (o : OptionName) → bytes_eq positional_name (option_row o).name
 option_apart AllowedMem = refl
 option_apart ReservedMem = refl
 option_apart SplitEvery = refl
+option_apart Fusion = refl
 option_apart Workers = refl
 option_apart Retries = refl
 option_apart Backups = refl

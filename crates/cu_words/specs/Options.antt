@@ -7,8 +7,9 @@ use Rattle.cu_words.specs.declared.options.CommandName.TheVariants.{Run, Resume,
 use Rattle.cu_words.specs.declared.options.CommandName.TheVariants.{Demo, Load, Check, Begin, Part}
 use Rattle.cu_words.specs.declared.options.OptionName.{OptionName}
 use Rattle.cu_words.specs.declared.options.OptionName.TheVariants.{AllowedMem, ReservedMem}
-use Rattle.cu_words.specs.declared.options.OptionName.TheVariants.{SplitEvery, Workers, Retries}
-use Rattle.cu_words.specs.declared.options.OptionName.TheVariants.{Backups, Sync, Op, From, To}
+use Rattle.cu_words.specs.declared.options.OptionName.TheVariants.{SplitEvery, Fusion, Workers}
+use Rattle.cu_words.specs.declared.options.OptionName.TheVariants.{Retries, Backups, Sync}
+use Rattle.cu_words.specs.declared.options.OptionName.TheVariants.{Op, From, To}
 use Rattle.cu_words.specs.declared.options.TableRow.{TableRow}
 
 -- an option's name, the least and the most number that it takes, and its number where it isn't
@@ -25,6 +26,7 @@ option_row AllowedMem =
     record { name = codes "allowed-mem"; least = 0; most = 2 ^ 40; default = 200000000 }
 option_row ReservedMem = record { name = codes "reserved-mem"; least = 0; most = 2 ^ 40; default = 0 }
 option_row SplitEvery = record { name = codes "split-every"; least = 2; most = 64; default = 4 }
+option_row Fusion = record { name = codes "fusion"; least = 1; most = 2; default = 1 }
 option_row Workers = record { name = codes "workers"; least = 1; most = 64; default = 1 }
 option_row Retries = record { name = codes "retries"; least = 0; most = 8; default = 2 }
 option_row Backups = record { name = codes "backups"; least = 0; most = 1; default = 0 }
@@ -35,13 +37,17 @@ option_row To = record { name = codes "to"; least = 0; most = 2 ^ 64 - 1; defaul
 
 -- the options that a command takes
 abbrev pub options_of : CommandName → List OptionName
-options_of Run = AllowedMem ∷ ReservedMem ∷ SplitEvery ∷ Workers ∷ Retries ∷ Backups ∷ Sync ∷ []
-options_of Demo = AllowedMem ∷ ReservedMem ∷ SplitEvery ∷ Workers ∷ Retries ∷ Backups ∷ Sync ∷ []
-options_of Resume = AllowedMem ∷ ReservedMem ∷ SplitEvery ∷ Workers ∷ Retries ∷ Backups ∷ Sync ∷ []
-options_of Drop = AllowedMem ∷ ReservedMem ∷ SplitEvery ∷ Retries ∷ []
-options_of Begin = AllowedMem ∷ ReservedMem ∷ SplitEvery ∷ Retries ∷ Sync ∷ []
-options_of Part = AllowedMem ∷ ReservedMem ∷ SplitEvery ∷ Retries ∷ Sync ∷ Op ∷ From ∷ To ∷ []
-options_of Plan = AllowedMem ∷ ReservedMem ∷ SplitEvery ∷ []
+options_of Run =
+    AllowedMem ∷ ReservedMem ∷ SplitEvery ∷ Fusion ∷ Workers ∷ Retries ∷ Backups ∷ Sync ∷ []
+options_of Demo =
+    AllowedMem ∷ ReservedMem ∷ SplitEvery ∷ Fusion ∷ Workers ∷ Retries ∷ Backups ∷ Sync ∷ []
+options_of Resume =
+    AllowedMem ∷ ReservedMem ∷ SplitEvery ∷ Fusion ∷ Workers ∷ Retries ∷ Backups ∷ Sync ∷ []
+options_of Drop = AllowedMem ∷ ReservedMem ∷ SplitEvery ∷ Fusion ∷ Retries ∷ []
+options_of Begin = AllowedMem ∷ ReservedMem ∷ SplitEvery ∷ Fusion ∷ Retries ∷ Sync ∷ []
+options_of Part =
+    AllowedMem ∷ ReservedMem ∷ SplitEvery ∷ Fusion ∷ Retries ∷ Sync ∷ Op ∷ From ∷ To ∷ []
+options_of Plan = AllowedMem ∷ ReservedMem ∷ SplitEvery ∷ Fusion ∷ []
 options_of Load = Retries ∷ Sync ∷ []
 options_of command = Retries ∷ []
 

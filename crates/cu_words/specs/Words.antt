@@ -17,8 +17,9 @@ use Rattle.cu_words.specs.declared.line.Numbers.{Numbers}
 use Rattle.cu_words.specs.declared.options.CommandName.{CommandName}
 use Rattle.cu_words.specs.declared.options.OptionName.{OptionName}
 use Rattle.cu_words.specs.declared.options.OptionName.TheVariants.{AllowedMem, ReservedMem}
-use Rattle.cu_words.specs.declared.options.OptionName.TheVariants.{SplitEvery, Workers, Retries}
-use Rattle.cu_words.specs.declared.options.OptionName.TheVariants.{Backups, Sync, Op, From, To}
+use Rattle.cu_words.specs.declared.options.OptionName.TheVariants.{SplitEvery, Fusion, Workers}
+use Rattle.cu_words.specs.declared.options.OptionName.TheVariants.{Retries, Backups, Sync}
+use Rattle.cu_words.specs.declared.options.OptionName.TheVariants.{Op, From, To}
 
 -- ---- numbers
 
@@ -54,7 +55,8 @@ number_or_zero given o = unwrap_or (number_given given o) 0
 
 abbrev pub has_numbers : (OptionName → List (List ℕ)) → Bool
 has_numbers given = list_all (λ o. is_some (number_given given o))
-    (AllowedMem ∷ ReservedMem ∷ SplitEvery ∷ Workers ∷ Retries ∷ Backups ∷ Sync ∷ Op ∷ From ∷ To ∷ [])
+    (AllowedMem ∷ ReservedMem ∷ SplitEvery ∷ Fusion ∷ Workers ∷ Retries ∷ Backups ∷ Sync ∷ Op
+    ∷ From ∷ To ∷ [])
 
 -- the values in the parts of a line
 abbrev pub option_values : List LinePart → OptionName → List (List ℕ)
@@ -66,6 +68,7 @@ numbers_given given = if has_numbers given then Some (record {
   allowed_mem = number_or_zero given AllowedMem;
   reserved_mem = number_or_zero given ReservedMem;
   split_every = number_or_zero given SplitEvery;
+  fusion = number_or_zero given Fusion;
   workers = number_or_zero given Workers;
   retries = number_or_zero given Retries;
   backups = number_or_zero given Backups;
@@ -97,6 +100,7 @@ pub record AreInRange (n : Numbers) : Type 0 where
   pub allowed_mem : IsInRow AllowedMem n.allowed_mem
   pub reserved_mem : IsInRow ReservedMem n.reserved_mem
   pub split_every : IsInRow SplitEvery n.split_every
+  pub fusion : IsInRow Fusion n.fusion
   pub workers : IsInRow Workers n.workers
   pub retries : IsInRow Retries n.retries
   pub backups : IsInRow Backups n.backups

@@ -25,6 +25,7 @@ pub struct Numbers {
     /// In bytes.
     pub reserved_mem: u64,
     pub split_every: u64,
+    pub fusion: u64,
     pub workers: u64,
     pub retries: u64,
     pub backups: u64,
@@ -144,6 +145,7 @@ fn numbers_found(matches: &ArgMatches) -> Option<Numbers>
         allowed_mem: number_found(matches, OptionName::AllowedMem)?,
         reserved_mem: number_found(matches, OptionName::ReservedMem)?,
         split_every: number_found(matches, OptionName::SplitEvery)?,
+        fusion: number_found(matches, OptionName::Fusion)?,
         workers: number_found(matches, OptionName::Workers)?,
         retries: number_found(matches, OptionName::Retries)?,
         backups: number_found(matches, OptionName::Backups)?,

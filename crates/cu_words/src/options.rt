@@ -27,6 +27,8 @@ pub enum OptionName {
     ReservedMem,
     /// How many partial results a task of a reduction merges.
     SplitEvery,
+    /// The version of the plan: 2 leaves arrays out that can be made where they are read.
+    Fusion,
     /// How many threads run tasks.
     Workers,
     /// How often a call or a task is tried again.
@@ -63,6 +65,7 @@ impl OptionName {
             OptionName::AllowedMem => ("allowed-mem", 0, 1 << 40, 200_000_000),
             OptionName::ReservedMem => ("reserved-mem", 0, 1 << 40, 0),
             OptionName::SplitEvery => ("split-every", 2, 64, 4),
+            OptionName::Fusion => ("fusion", 1, 2, 1),
             OptionName::Workers => ("workers", 1, 64, 1),
             OptionName::Retries => ("retries", 0, 8, 2),
             OptionName::Backups => ("backups", 0, 1, 0),
@@ -80,43 +83,48 @@ impl OptionName {
     }
 }
 
-static RUN: [OptionName; 7] = [
+static RUN: [OptionName; 8] = [
     OptionName::AllowedMem,
     OptionName::ReservedMem,
     OptionName::SplitEvery,
+    OptionName::Fusion,
     OptionName::Workers,
     OptionName::Retries,
     OptionName::Backups,
     OptionName::Sync,
 ];
 
-static PLAN: [OptionName; 3] = [
+static PLAN: [OptionName; 4] = [
     OptionName::AllowedMem,
     OptionName::ReservedMem,
     OptionName::SplitEvery,
+    OptionName::Fusion,
 ];
 
-static DROP: [OptionName; 4] = [
+static DROP: [OptionName; 5] = [
     OptionName::AllowedMem,
     OptionName::ReservedMem,
     OptionName::SplitEvery,
+    OptionName::Fusion,
     OptionName::Retries,
 ];
 
-static BEGIN: [OptionName; 5] = [
+static BEGIN: [OptionName; 6] = [
     OptionName::AllowedMem,
     OptionName::ReservedMem,
     OptionName::SplitEvery,
+    OptionName::Fusion,
     OptionName::Retries,
     OptionName::Sync,
 ];
 
 static LOAD: [OptionName; 2] = [OptionName::Retries, OptionName::Sync];
 
-static PART: [OptionName; 8] = [
+static PART: [OptionName; 9] = [
     OptionName::AllowedMem,
     OptionName::ReservedMem,
     OptionName::SplitEvery,
+    OptionName::Fusion,
     OptionName::Retries,
     OptionName::Sync,
     OptionName::Op,

@@ -8,7 +8,7 @@ use Rattle.cu_store.specs.declared.faults.TaskFault.{TaskFault}
 use Rattle.cu_store.specs.declared.faults.TaskFault.TheVariants as fault
 use Rattle.cu_history.specs.History.{is_start, count_of_task}
 use Rattle.cu_op.specs.PlanView.{PlanView}
-use Rattle.cu_task.specs.Task.{calls_of}
+use Rattle.cu_task.specs.Calls.{calls_of}
 use Rattle.cu_table.specs.Numbers.{IsTask}
 use Rattle.cu_table.specs.Step.{Settings, Step, StepOf, Replays}
 use Rattle.cu_table.specs.Table.{TableView, Goes, start_event, end_of, report_kind}

@@ -19,10 +19,10 @@ use Rattle.cu_op.specs.Arrays.{maker_at}
 use Rattle.cu_op.specs.PlanView.{PlanView}
 use Rattle.cu_op.specs.Schedule.{op_of, key_of, task_at}
 use Rattle.cu_op.specs.Sound.{Sound}
-use Rattle.cu_op.proofs.TaskCells.{fit_of, read_array, task_for, written_cell}
+use Rattle.cu_op.proofs.TaskCells.{task_for, written_cell}
 use Rattle.cu_region.specs.Passes.{IsLaterIn}
 use Rattle.cu_task.specs.Serving.{ServesPlan, HasSeenInputs, HasSeenOutputs}
-use Rattle.cu_task.specs.Task.{calls_of}
+use Rattle.cu_task.specs.Calls.{calls_of}
 use Rattle.cu_run_law.proofs.Reading.{input_or_made}
 use Rattle.cu_table.specs.declared.state.RunningCopy.{RunningCopy}
 use Rattle.cu_table.specs.declared.state.TaskState.{TaskState}
@@ -38,7 +38,8 @@ use Rattle.cu_table.proofs.Keeping.{Kept, state_same, step_kept, replay_kept}
 use Rattle.cu_work.specs.Alone.{HasSeenDone, IsHaltOf, HasRun, IsDecided, Tried, halt_outcome}
 use Rattle.cu_work.specs.declared.outcome.Outcome.{Outcome}
 use Rattle.cu_work.specs.declared.outcome.Outcome.TheVariants as outcome
-use Rattle.cu_work.proofs.Worlds.{as_input, done_from}
+use Rattle.cu_work.proofs.StoredChunks.{as_input, read_cell}
+use Rattle.cu_work.proofs.Worlds.{done_from}
 
 -- ---- counts
 
@@ -118,11 +119,10 @@ module _ (g : Settings) (m n : Machine) (op task : ℕ) (kept : Kept g.plan g.re
   pub seen_inputs : Sound g.plan → (seen : List ℕ → Bool) → HasSeenDone g.plan m seen → HasSeenInputs g.plan op task seen
   seen_inputs sound seen all c listed made =
       let p = g.plan in
-      let chunk = read_array p sound op (op_of p op) (fit_of p sound op claimed_task.operation) task c claimed_task.number listed in
       elim (input_or_made (maker_at p.arrays c.array)) [
         | inl given ↦ absurd (made given)
         | inr maker ↦
-            let w = task_for p sound maker.0 c.array c.coord (record { within = chunk.1.0; made = made; coordinate = chunk.1.1 }) maker.1 in
+            let w = task_for p sound maker.0 c.array c.coord (read_cell p sound op task claimed_task c listed made) maker.1 in
             let number = task_at p.arrays (op_of p maker.0) c in
             all maker.0 number (record { operation = w.operation; number = w.number }) (claimed_ready maker.0 number (c, as_input p sound op task claimed_task c listed, w)) c w.cell
       ]

@@ -17,7 +17,8 @@ use Rattle.cu_op.specs.Arrays.{maker_at}
 use Rattle.cu_op.specs.Cells.{IsChunk}
 use Rattle.cu_op.specs.PlanView.{PlanView}
 use Rattle.cu_op.specs.Schedule.{op_of, key_of}
-use Rattle.cu_op.specs.Walks.{read_chunks, written_chunks}
+use Rattle.cu_op.specs.Walks.{written_chunks}
+use Rattle.cu_op.specs.Within.{fetched_chunks}
 use Rattle.cu_work.specs.Order.{task_keys}
 use Rattle.cu_work.specs.Search.{AreAsked, IsSearchFault}
 use Rattle.cu_work.specs.World.{IsStored}
@@ -96,13 +97,13 @@ went_false s own known now H true e went = cc
 -- where the iterator stands
 pub record InputsSoFar (p : PlanView) (q : Part) (tries task : ℕ) (known : (List ℕ → Bool) × (List ℕ → Bool)) (shown : Shown × Shown) (left : List Cell) : Type 0 where
   pub chunks : All (IsChunk p.arrays) left
-  pub listed : (c : Cell) → Contains left c → Contains (read_chunks p.arrays (op_of p q.op) task) c
+  pub listed : (c : Cell) → Contains left c → Contains (fetched_chunks p q.op task) c
   pub step : Steps NoChange 0 last_count shown.0 shown.1
   pub asked : (start : Shown) (own : ℕ) → LacksChunk p q.op task start → IsAsking (asking_of p q tries start) own known.0 shown.0
       → IsAsking (asking_of p q tries start) own known.1 shown.1
-      × ((c : Cell) → Contains (read_chunks p.arrays (op_of p q.op) task) c → Contains left c ⊎ (maker_at p.arrays c.array ≢ None → IsHeldIn shown.1.held (key_of p.arrays c)))
+      × ((c : Cell) → Contains (fetched_chunks p q.op task) c → Contains left c ⊎ (maker_at p.arrays c.array ≢ None → IsHeldIn shown.1.held (key_of p.arrays c)))
 
-pub inputs_at_first : (p : PlanView) (q : Part) (tries task : ℕ) (known : List ℕ → Bool) (shown : Shown) (cells left : List Cell) → left ≡ cells → cells ≡ read_chunks p.arrays (op_of p q.op) task
+pub inputs_at_first : (p : PlanView) (q : Part) (tries task : ℕ) (known : List ℕ → Bool) (shown : Shown) (cells left : List Cell) → left ≡ cells → cells ≡ fetched_chunks p q.op task
     → All (IsChunk p.arrays) cells → InputsSoFar p q tries task (known, known) (shown, shown) left
 inputs_at_first p q tries task known shown cells left e is chunks = record {
   chunks = subst (All (IsChunk p.arrays)) (sym e) chunks;
@@ -137,7 +138,7 @@ module _ (p : PlanView) (q : Part) (tries task : ℕ) (known0 known : List ℕ �
     pub cell_chunk : IsChunk p.arrays cell
     cell_chunk = All-head (IsChunk p.arrays) cell later (subst (All (IsChunk p.arrays)) e so_far.chunks)
 
-    pub cell_listed : Contains (read_chunks p.arrays (op_of p q.op) task) cell
+    pub cell_listed : Contains (fetched_chunks p q.op task) cell
     cell_listed = so_far.listed cell (subst (λ (x : List Cell). Contains x cell) (sym e) (0, omega arith, refl))
 
     module _ (known1 : List ℕ → Bool) (new : Shown) (step : Steps NoChange 0 last_count now new) where

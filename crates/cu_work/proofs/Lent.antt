@@ -1,32 +1,38 @@
 -- What each task is lent, of the most that any is.
-use Rattle.std.proofs.Common.{◌≡◌, ℕ, zero, suc, ◌+◌, ◌*◌, ◌<◌, ◌≤◌, List, [], ◌∷◌, ◌++◌, length, map, take, replicate, max, refl, ap, sym, ◌∙◌, subst, arith}
+use Rattle.std.proofs.Common.{◌≡◌, ℕ, zero, suc, ◌+◌, ◌*◌, ◌<◌, ◌≤◌, List, [], ◌∷◌, ◌++◌, length, get_or, map, replicate, max, refl, ap, sym, ◌∙◌, subst, arith}
+use Rattle.std.specs.List.{range_with_len}
 use Rattle.std.specs.Prelude.{sum_by}
 use Rattle.std.proofs.lemmas.List.{length-replicate}
 use Rattle.std.proofs.lemmas.List.Elements.{All-replicate}
 use Rattle.std.proofs.lemmas.List.Folds.{sum_by-replicate}
 use Rattle.std.proofs.lemmas.List.Sums.{sum_by-le}
-use Rattle.cu_op.specs.declared.operation.Planned.{Planned}
-use Rattle.std.proofs.lemmas.List.{map_more}
-use Rattle.cu_op.specs.PlanView.{PlanView, operation_at, no_operation}
-use Rattle.cu_op.specs.Schedule.{op_of}
-use Rattle.cu_op.specs.Sound.{Sound}
-use Rattle.cu_work.specs.Rooms.{RoomSizes, task_bytes, task_words, rooms_of, buffer_bytes, AreLentWithin}
+use Rattle.std.proofs.lemmas.List.FromFn.{get_or-range_with_len, length-range_with_len, map-range_with_len_more}
+use Rattle.cu_op.specs.PlanView.{PlanView}
+use Rattle.cu_work.specs.Rooms.{RoomSizes, task_bytes, task_words, most_of, rooms_of, buffer_bytes, AreLentWithin}
 use Rattle.cu_shape.specs.Counts.{largest}
 
-most_at : (f : Planned → ℕ) (ops : List Planned) (k : ℕ) → k < length ops → f (operation_at ops k) ≤ largest (map f ops)
-most_at f [] k h = absurd (omega arith)
-most_at f (o ∷ os) zero h = omega arith
-most_at f (o ∷ os) (suc k) h = let rest = most_at f os k (omega arith) in omega (arith, rest)
+one_of : (f : ℕ → ℕ) (ns : List ℕ) (i d : ℕ) → i < length ns → f (get_or ns i d) ≤ largest (map f ns)
+one_of f [] i d h = absurd (omega arith)
+one_of f (n ∷ ns) zero d h = omega arith
+one_of f (n ∷ ns) (suc i) d h = let rest = one_of f ns i d (omega arith) in omega (arith, rest)
 
-pub bytes_lent : (p : PlanView) (k n : ℕ) (xs : List ℕ) → k < length p.ops → n ≡ task_bytes p.arrays (op_of p k) → length xs ≡ (rooms_of p).bytes → n ≤ length xs
-bytes_lent p k n xs h e long = let most = most_at (λ o. task_bytes p.arrays o.op) p.ops k h in omega (arith, most, e, long)
+itself : (n k : ℕ) → k < n → get_or (range_with_len 0 n) k 0 ≡ k
+itself n k h = let at = get_or-range_with_len 0 n k 0 h in omega (arith, at)
 
-pub words_lent : (p : PlanView) (k n : ℕ) (xs : List ℕ) → k < length p.ops → n ≡ task_words (op_of p k) → length xs ≡ (rooms_of p).words → n ≤ length xs
-words_lent p k n xs h e long = let most = most_at (λ o. task_words o.op) p.ops k h in omega (arith, most, e, long)
+most_at : (f : ℕ → ℕ) (p : PlanView) (k : ℕ) → k < length p.ops → f k ≤ most_of f p
+most_at f p k h =
+    let long = length-range_with_len 0 (length p.ops) in
+    subst (λ (n : ℕ). f n ≤ most_of f p) (itself (length p.ops) k h) (one_of f (range_with_len 0 (length p.ops)) k 0 (omega (arith, long, h)))
+
+pub bytes_lent : (p : PlanView) (k n : ℕ) (xs : List ℕ) → k < length p.ops → n ≡ task_bytes p k → length xs ≡ (rooms_of p).bytes → n ≤ length xs
+bytes_lent p k n xs h e long = let most = most_at (task_bytes p) p k h in omega (arith, most, e, long)
+
+pub words_lent : (p : PlanView) (k n : ℕ) (xs : List ℕ) → k < length p.ops → n ≡ task_words p k → length xs ≡ (rooms_of p).words → n ≤ length xs
+words_lent p k n xs h e long = let most = most_at (task_words p) p k h in omega (arith, most, e, long)
 
 -- the most of the operations below k + 1
-pub most_more : (f : Planned → ℕ) (ops : List Planned) (k : ℕ) → k < length ops → largest (map f (take (k + 1) ops)) ≡ max (f (operation_at ops k)) (largest (map f (take k ops)))
-most_more f ops k h = ap largest (map_more f ops k no_operation h) ∙ most_push (map f (take k ops)) (f (operation_at ops k))
+pub most_more : (f : ℕ → ℕ) (k : ℕ) → largest (map f (range_with_len 0 (k + 1))) ≡ max (f k) (largest (map f (range_with_len 0 k)))
+most_more f k = ap largest (map-range_with_len_more f 0 k k (omega arith)) ∙ most_push (map f (range_with_len 0 k)) (f k)
   where
     most_push : (ns : List ℕ) (n : ℕ) → largest (ns ++ n ∷ []) ≡ max n (largest ns)
     most_push [] n = refl
@@ -34,20 +40,24 @@ most_more f ops k h = ap largest (map_more f ops k no_operation h) ∙ most_push
 
 -- ---- the memory of several workers
 
-largest_within : (f : Planned → ℕ) (ops : List Planned) (n : ℕ) → ((k : ℕ) → k < length ops → f (operation_at ops k) ≤ n) → largest (map f ops) ≤ n
+largest_within : (f : ℕ → ℕ) (ns : List ℕ) (n : ℕ) → ((i : ℕ) → i < length ns → f (get_or ns i 0) ≤ n) → largest (map f ns) ≤ n
 largest_within f [] n within = omega arith
-largest_within f (o ∷ os) n within =
+largest_within f (m ∷ ms) n within =
     let one = within 0 (omega arith) in
-    let rest = largest_within f os n (λ k h. within (suc k) (omega arith)) in
+    let rest = largest_within f ms n (λ i h. within (suc i) (omega arith)) in
     omega (arith, one, rest)
 
-pub rooms_within : (p : PlanView) (room instructions : ℕ) → Sound p → AreLentWithin p room instructions → buffer_bytes (rooms_of p) ≤ room + 512 * instructions
-rooms_within p room instructions sound lent =
-    let bytes = largest_within (λ o. task_bytes p.arrays o.op) p.ops room (λ k h.
-    let is = (sound.operations k h).projected in
-    let small = (lent k no_operation h).0 in
-    omega (arith, is, small)) in
-    let words = largest_within (λ o. task_words o.op) p.ops (64 * instructions) (λ k h. let few = (lent k no_operation h).1 in omega (arith, few)) in
+most_within : (f : ℕ → ℕ) (p : PlanView) (n : ℕ) → ((k : ℕ) → k < length p.ops → f k ≤ n) → most_of f p ≤ n
+most_within f p n within =
+    let long = length-range_with_len 0 (length p.ops) in
+    largest_within f (range_with_len 0 (length p.ops)) n (λ i h.
+    let below : i < length p.ops = omega (arith, long, h) in
+    subst (λ (k : ℕ). f k ≤ n) (sym (itself (length p.ops) i below)) (within i below))
+
+pub rooms_within : (p : PlanView) (room instructions : ℕ) → AreLentWithin p room instructions → buffer_bytes (rooms_of p) ≤ room + 512 * instructions
+rooms_within p room instructions lent =
+    let bytes = most_within (task_bytes p) p room (λ k h. let small = (lent k h).0 in omega (arith, small)) in
+    let words = most_within (task_words p) p (64 * instructions) (λ k h. let few = (lent k h).1 in omega (arith, few)) in
     omega (arith, bytes, words)
 
 pub all_buffers : (n : ℕ) (r : RoomSizes) (rooms : List RoomSizes) → rooms ≡ replicate n r → sum_by buffer_bytes rooms ≡ n * buffer_bytes r

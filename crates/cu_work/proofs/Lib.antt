@@ -1,4 +1,5 @@
 pub mod Lent
+pub mod StoredChunks
 pub mod Asking
 pub mod Worlds
 pub mod Started

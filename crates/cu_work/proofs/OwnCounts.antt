@@ -8,7 +8,8 @@ use Rattle.cu_store.specs.declared.faults.TaskFault.TheVariants as fault
 use Rattle.cu_history.specs.declared.entry.Entry.{Entry}
 use Rattle.cu_history.specs.History.{is_start, is_failed, count_kind, own}
 use Rattle.cu_op.specs.PlanView.{PlanView}
-use Rattle.cu_task.specs.Task.{calls_of, IsTaskFault}
+use Rattle.cu_task.specs.Task.{IsTaskFault}
+use Rattle.cu_task.specs.Calls.{calls_of}
 use Rattle.cu_table.specs.declared.claim.Claim.{Claim}
 use Rattle.cu_table.specs.declared.claim.Claim.TheVariants as claim
 use Rattle.cu_table.specs.Table.{TableView, start_event, end_of, report_kind, is_late}

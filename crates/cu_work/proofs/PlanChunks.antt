@@ -10,17 +10,18 @@ use Rattle.cu_store.specs.Share.{KeysDiffer}
 use Rattle.cu_store.specs.Yard.{is_served, is_made}
 use Rattle.cu_op.specs.declared.cells.Cell.{Cell}
 use Rattle.cu_op.specs.declared.layout.ArrayInfo.{ArrayInfo}
-use Rattle.cu_op.specs.Arrays.{array_at, grid_at, grid_counts, maker_at, array_chunk_count}
+use Rattle.cu_op.specs.Arrays.{array_at, grid_at, grid_counts, is_inlined, maker_at, array_chunk_count}
 use Rattle.cu_op.specs.Chunks.{cell}
-use Rattle.cu_op.specs.Cells.{IsChunk}
 use Rattle.cu_op.specs.PlanView.{PlanView}
 use Rattle.cu_op.specs.Schedule.{key_of}
 use Rattle.cu_op.specs.Sound.{IsCell}
 use Rattle.cu_op.proofs.CellsOfTasks.{same_array, same_coord}
+use Rattle.cu_op.proofs.Members.{bool_cases}
 use Rattle.cu_run_law.specs.Pieces.{PlanRun, Chunk, IsInputChunk, KeysApart, InputsApart}
 use Rattle.cu_run_law.proofs.Reading.{input_or_made}
 use Rattle.cu_task.specs.Serving.{IsOnlyRead}
-use Rattle.cu_work.specs.Shared.{chunks_below, chunks_of_first, plan_chunks, spec_of, specs_of}
+use Rattle.cu_work.specs.Shared.{chunks_below, chunks_of_first, plan_chunks, spec_of, specs_of, stored_chunks}
+use Rattle.cu_work.proofs.StoredChunks.{cell_chunk, stored_cell, IsStoredChunk}
 
 -- ---- each chunk is listed
 
@@ -65,26 +66,47 @@ module _ (arrays : List ArrayInfo) where
       below_or_last zero (suc n) less = inl (omega arith)
       below_or_last (suc k) (suc n) less = elim (below_or_last k n (omega (arith, less))) [ inl under ↦ inl (omega (arith, under)) | inr same ↦ inr (ap suc same) ]
 
-  before_is : (n : ℕ) (c : Cell) → Contains (chunks_of_first arrays n) c → (c.array < n) × IsCoordinate (grid_at arrays c.array) c.coord
-  before_is zero c listed = absurd (none_in c listed)
-  before_is (suc n) c listed =
-      elim (Contains-append_cases (chunks_of_first arrays n) (chunks_below arrays n (array_chunk_count (array_at arrays n))) c listed) [
-        | inl front ↦ let (less, at) = before_is n c front in (omega (arith, less), at)
-        | inr last ↦
-            let (k, few, is) = below_is n (array_chunk_count (array_at arrays n)) c last in
-            subst (λ (d : Cell). (d.array < suc n) × IsCoordinate (grid_at arrays d.array) d.coord) is
-            (omega arith, index-inside (grid_counts (grid_at arrays n)) k few)
+  -- the chunks that have keys are all of a stored array, and none of one that is made where it is read
+  abbrev all_below : ℕ → List Cell
+  all_below a = chunks_below arrays a (array_chunk_count (array_at arrays a))
+
+  pub all_stored : (a : ℕ) → is_inlined arrays a ≡ false → stored_chunks arrays a ≡ all_below a
+  all_stored a stored = rw stored refl
+
+  pub none_stored : (a : ℕ) → is_inlined arrays a ≡ true → stored_chunks arrays a ≡ []
+  none_stored a inner = rw inner refl
+
+  stored_is : (a : ℕ) (c : Cell) → Contains (stored_chunks arrays a) c → (is_inlined arrays a ≡ false) × Contains (all_below a) c
+  stored_is a c listed =
+      elim (bool_cases (is_inlined arrays a)) [
+        | inr stored ↦ (stored, subst (λ (cs : List Cell). Contains cs c) (all_stored a stored) listed)
+        | inl inner ↦ absurd (none_in c (subst (λ (cs : List Cell). Contains cs c) (none_stored a inner) listed))
       ]
 
-  before_has : (n : ℕ) (c : Cell) → c.array < n → IsCoordinate (grid_at arrays c.array) c.coord → Contains (chunks_of_first arrays n) c
-  before_has zero c less at = absurd (omega arith)
-  before_has (suc n) c less at =
+  abbrev IsListedBelow : ℕ → Cell → Type 0
+  IsListedBelow n c = (c.array < n) × IsCoordinate (grid_at arrays c.array) c.coord × (is_inlined arrays c.array ≡ false)
+
+  before_is : (n : ℕ) (c : Cell) → Contains (chunks_of_first arrays n) c → IsListedBelow n c
+  before_is zero c listed = absurd (none_in c listed)
+  before_is (suc n) c listed =
+      elim (Contains-append_cases (chunks_of_first arrays n) (stored_chunks arrays n) c listed) [
+        | inl front ↦ let (less, at, stored) = before_is n c front in (omega (arith, less), at, stored)
+        | inr last ↦
+            let (stored, own) = stored_is n c last in
+            let (k, few, is) = below_is n (array_chunk_count (array_at arrays n)) c own in
+            subst (IsListedBelow (suc n)) is (omega arith, index-inside (grid_counts (grid_at arrays n)) k few, stored)
+      ]
+
+  before_has : (n : ℕ) (c : Cell) → c.array < n → IsCoordinate (grid_at arrays c.array) c.coord → is_inlined arrays c.array ≡ false → Contains (chunks_of_first arrays n) c
+  before_has zero c less at stored = absurd (omega arith)
+  before_has (suc n) c less at stored =
       elim (array_is c.array n less) [
-        | inl under ↦ Contains-append_left (chunks_of_first arrays n) (chunks_below arrays n (array_chunk_count (array_at arrays n))) c (before_has n c under at)
-        | inr same ↦ Contains-append_right (chunks_of_first arrays n) (chunks_below arrays n (array_chunk_count (array_at arrays n))) c
-            (subst (λ (a : ℕ). Contains (chunks_below arrays a (array_chunk_count (array_at arrays a))) c) same
-            (subst (Contains (chunks_below arrays c.array (array_chunk_count (array_at arrays c.array)))) (whole c at)
-            (below_has c.array (array_chunk_count (array_at arrays c.array)) (place_of (grid_counts (grid_at arrays c.array)) c.coord) (place-below (grid_counts (grid_at arrays c.array)) c.coord at))))
+        | inl under ↦ Contains-append_left (chunks_of_first arrays n) (stored_chunks arrays n) c (before_has n c under at stored)
+        | inr same ↦ Contains-append_right (chunks_of_first arrays n) (stored_chunks arrays n) c
+            (subst (λ (a : ℕ). Contains (stored_chunks arrays a) c) same
+            (subst (λ (cs : List Cell). Contains cs c) (sym (all_stored c.array stored))
+            (subst (Contains (all_below c.array)) (whole c at)
+            (below_has c.array (array_chunk_count (array_at arrays c.array)) (place_of (grid_counts (grid_at arrays c.array)) c.coord) (place-below (grid_counts (grid_at arrays c.array)) c.coord at)))))
       ]
     where
       array_is : (k n : ℕ) → k < suc n → (k < n) ⊎ (k ≡ n)
@@ -130,21 +152,28 @@ module _ (arrays : List ArrayInfo) where
         | inr none ↦ none_in c none
       ])
 
+  stored_once : (a : ℕ) → AreOnce (stored_chunks arrays a)
+  stored_once a =
+      elim (bool_cases (is_inlined arrays a)) [
+        | inr stored ↦ subst AreOnce (sym (all_stored a stored)) (below_once a (array_chunk_count (array_at arrays a)) (omega arith))
+        | inl inner ↦ subst AreOnce (sym (none_stored a inner)) tt
+      ]
+
   before_once : (n : ℕ) → AreOnce (chunks_of_first arrays n)
   before_once zero = tt
   before_once (suc n) =
-      once_joined (chunks_of_first arrays n) (chunks_below arrays n (array_chunk_count (array_at arrays n))) (before_once n) (below_once n (array_chunk_count (array_at arrays n)) (omega arith))
+      once_joined (chunks_of_first arrays n) (stored_chunks arrays n) (before_once n) (stored_once n)
       (λ c front last.
-      let (less, at) = before_is n c front in
-      let (k, few, is) = below_is n (array_chunk_count (array_at arrays n)) c last in
+      let less = (before_is n c front).0 in
+      let (k, few, is) = below_is n (array_chunk_count (array_at arrays n)) c (stored_is n c last).1 in
       let same = same_array (cell n (coordinate_of (grid_at arrays n) k)) c is in
       omega (arith, less, same))
 
-pub chunk_listed : (p : PlanView) (c : Cell) → IsChunk p.arrays c → Contains (plan_chunks p) c
-chunk_listed p c chunk = before_has p.arrays (length p.arrays) c chunk.0 chunk.1
+pub chunk_listed : (p : PlanView) (c : Cell) → IsStoredChunk p.arrays c → Contains (plan_chunks p) c
+chunk_listed p c chunk = before_has p.arrays (length p.arrays) c chunk.0.0 chunk.0.1 chunk.1
 
-pub listed_chunk : (p : PlanView) (c : Cell) → Contains (plan_chunks p) c → IsChunk p.arrays c
-listed_chunk p c listed = before_is p.arrays (length p.arrays) c listed
+pub listed_chunk : (p : PlanView) (c : Cell) → Contains (plan_chunks p) c → IsStoredChunk p.arrays c
+listed_chunk p c listed = let at = before_is p.arrays (length p.arrays) c listed in ((at.0, at.1), at.2)
 
 pub chunks_once : (p : PlanView) → AreOnce p.arrays (plan_chunks p)
 chunks_once p = before_once p.arrays (length p.arrays)
@@ -159,9 +188,9 @@ some_made : (m : Option ℕ) → is_some m ≡ true → m ≢ None
 some_made None some = cc
 some_made (Some k) some = λ e. cc
 
--- chunks of a plan with one key are one chunk
+-- stored chunks of a plan with one key are one chunk
 abbrev pub ChunksApart : PlanView → Type 0
-ChunksApart p = (c d : Cell) → IsChunk p.arrays c → IsChunk p.arrays d → key_of p.arrays c ≡ key_of p.arrays d → c ≡ d
+ChunksApart p = (c d : Cell) → IsStoredChunk p.arrays c → IsStoredChunk p.arrays d → key_of p.arrays c ≡ key_of p.arrays d → c ≡ d
 
 chunk_same : (c d : Cell) → Chunk c ≡ Chunk d → c ≡ d
 chunk_same c d e = cc
@@ -173,17 +202,20 @@ pub chunks_apart : (r : PlanRun) → KeysApart r → InputsApart r → ChunksApa
 chunks_apart r apart inputs c d chunk other e =
     elim (input_or_made (maker_at r.plan.arrays c.array)) [
       | inl given ↦ elim (input_or_made (maker_at r.plan.arrays d.array)) [
-        | inl also ↦ inputs c d (record { within = chunk.0; given = given; coordinate = chunk.1 }) (record { within = other.0; given = also; coordinate = other.1 }) e
-        | inr made ↦ absurd (apart.inputs (Chunk d) c (piece d other made.0 made.1) (record { within = chunk.0; given = given; coordinate = chunk.1 }) (sym e))
+        | inl also ↦ inputs c d (input c chunk given) (input d other also) e
+        | inr made ↦ absurd (apart.inputs (Chunk d) c (piece d other made.0 made.1) (input c chunk given) (sym e))
       ]
       | inr made ↦ elim (input_or_made (maker_at r.plan.arrays d.array)) [
-        | inl given ↦ absurd (apart.inputs (Chunk c) d (piece c chunk made.0 made.1) (record { within = other.0; given = given; coordinate = other.1 }) e)
+        | inl given ↦ absurd (apart.inputs (Chunk c) d (piece c chunk made.0 made.1) (input d other given) e)
         | inr also ↦ chunk_same c d (apart.pieces (Chunk c) (Chunk d) (piece c chunk made.0 made.1) (piece d other also.0 also.1) e)
       ]
     ]
   where
-    piece : (c : Cell) → IsChunk r.plan.arrays c → (k : ℕ) → maker_at r.plan.arrays c.array ≡ Some k → IsCell r.plan.arrays c.array c.coord
-    piece c chunk k made = record { within = chunk.0; made = λ none. none_some (maker_at r.plan.arrays c.array) k none made; coordinate = chunk.1 }
+    piece : (c : Cell) → IsStoredChunk r.plan.arrays c → (k : ℕ) → maker_at r.plan.arrays c.array ≡ Some k → IsCell r.plan.arrays c.array c.coord
+    piece c chunk k made = stored_cell r.plan.arrays c chunk (λ none. none_some (maker_at r.plan.arrays c.array) k none made)
+
+    input : (c : Cell) → IsStoredChunk r.plan.arrays c → maker_at r.plan.arrays c.array ≡ None → IsInputChunk r.plan.arrays c
+    input c chunk given = record { within = chunk.0.0; given = given; coordinate = chunk.0.1 }
 
 module _ (p : PlanView) where
   -- a key that is served is that of a listed chunk
@@ -240,7 +272,7 @@ module _ (p : PlanView) where
       or_right false h = h
 
   -- the keys of chunks that are listed once differ
-  differ_in : ChunksApart p → (cs : List Cell) → ((c : Cell) → Contains cs c → IsChunk p.arrays c) → AreOnce p.arrays cs → KeysDiffer (map (spec_of p.arrays) cs)
+  differ_in : ChunksApart p → (cs : List Cell) → ((c : Cell) → Contains cs c → IsStoredChunk p.arrays c) → AreOnce p.arrays cs → KeysDiffer (map (spec_of p.arrays) cs)
   differ_in apart [] all once = tt
   differ_in apart (c ∷ cs) all (new, once) = (
     by (is_served (map (spec_of p.arrays) cs) (key_of p.arrays c)) refl,
@@ -261,11 +293,10 @@ module _ (p : PlanView) where
   pub made_cell : (key : List ℕ) → IsTrue (is_made (specs_of p) key) → (c : Cell) × IsCell p.arrays c.array c.coord × (key_of p.arrays c ≡ key)
   made_cell key h =
       let (c, listed, made, is) = made_is (plan_chunks p) key h in
-      let chunk = listed_chunk p c listed in
-      (c, record { within = chunk.0; made = made; coordinate = chunk.1 }, is)
+      (c, stored_cell p.arrays c (listed_chunk p c listed) made, is)
 
   pub cell_made : (c : Cell) → IsCell p.arrays c.array c.coord → IsTrue (is_made (specs_of p) (key_of p.arrays c))
-  cell_made c piece = made_has (plan_chunks p) c (chunk_listed p c (piece.within, piece.coordinate)) piece.made
+  cell_made c piece = made_has (plan_chunks p) c (chunk_listed p c (cell_chunk p.arrays c piece)) piece.made
 
   -- one that is only read is that of an input's chunk
   pub read_input : (key : List ℕ) → IsTrue (is_served (specs_of p) key) → is_made (specs_of p) key ≡ false → (c : Cell) × IsInputChunk p.arrays c × (key_of p.arrays c ≡ key)
@@ -273,7 +304,7 @@ module _ (p : PlanView) where
       let (c, listed, is) = served_is (plan_chunks p) key h in
       let chunk = listed_chunk p c listed in
       elim (input_or_made (maker_at p.arrays c.array)) [
-        | inl given ↦ (c, record { within = chunk.0; given = given; coordinate = chunk.1 }, is)
+        | inl given ↦ (c, record { within = chunk.0.0; given = given; coordinate = chunk.0.1 }, is)
         | inr made ↦
             let there = made_has (plan_chunks p) c listed (λ none. none_some (maker_at p.arrays c.array) made.0 none made.1) in
             absurd (true_false (is_made (specs_of p) key) (subst (λ (k : List ℕ). IsTrue (is_made (specs_of p) k)) is there) unmade)
@@ -282,7 +313,7 @@ module _ (p : PlanView) where
       true_false : (b : Bool) → IsTrue b → b ≡ false → ⊥
       true_false b h e = cc
 
-  pub input_read : ChunksApart p → (c : Cell) → IsChunk p.arrays c → maker_at p.arrays c.array ≡ None → IsOnlyRead (specs_of p) (key_of p.arrays c)
+  pub input_read : ChunksApart p → (c : Cell) → IsStoredChunk p.arrays c → maker_at p.arrays c.array ≡ None → IsOnlyRead (specs_of p) (key_of p.arrays c)
   input_read apart c chunk given = (
     served_has (plan_chunks p) c (chunk_listed p c chunk),
     by (is_made (specs_of p) (key_of p.arrays c)) refl,
@@ -292,5 +323,5 @@ module _ (p : PlanView) where
       by false e = e
       by true e =
           let (d, piece, is) = made_cell (key_of p.arrays c) e in
-          let same = apart d c (piece.within, piece.coordinate) chunk is in
+          let same = apart d c (cell_chunk p.arrays d piece) chunk is in
           absurd (piece.made (ap (λ (x : Cell). maker_at p.arrays x.array) same ∙ given))

@@ -20,7 +20,6 @@ use Rattle.cu_store.specs.Yard.{bytes_under}
 use Rattle.cu_store.specs.declared.yard.Spec.{Spec}
 use Rattle.cu_op.specs.declared.cells.Cell.{Cell}
 use Rattle.cu_op.specs.Arrays.{layout_at, maker_at, chunk_room}
-use Rattle.cu_op.specs.Cells.{IsChunk}
 use Rattle.cu_op.specs.PlanView.{PlanView}
 use Rattle.cu_op.specs.Schedule.{key_of, cell_value}
 use Rattle.cu_op.specs.Sound.{IsCell}
@@ -28,6 +27,7 @@ use Rattle.cu_op.specs.Elements.{Elements}
 use Rattle.cu_op.specs.Value.{plan_value}
 use Rattle.cu_work.specs.Shared.{plan_chunks, spec_of, specs_of, with_write, put_value, writes_of_chunks}
 use Rattle.cu_work.proofs.PlanChunks.{ChunksApart, chunk_listed, listed_chunk, first_is, behind, front_or, none_in}
+use Rattle.cu_work.proofs.StoredChunks.{cell_chunk, IsStoredChunk}
 
 -- ---- a value is of bytes
 
@@ -106,7 +106,7 @@ module _ (p : PlanView) (env : Elements) where
   promised_is (c ∷ cs) key bytes e = by_maker c cs key bytes (writes_of_chunks p env cs) (promised_is cs key bytes) (maker_at p.arrays c.array) refl e
 
   module _ (apart : ChunksApart p) where
-    module _ (d c : Cell) (bytes : List ℕ) (writes : List Write) (chunk : IsChunk p.arrays d) (own : IsChunk p.arrays c) (made : maker_at p.arrays c.array ≢ None)
+    module _ (d c : Cell) (bytes : List ℕ) (writes : List Write) (chunk : IsStoredChunk p.arrays d) (own : IsStoredChunk p.arrays c) (made : maker_at p.arrays c.array ≢ None)
         (value : cell_value p env c ≡ Some bytes) (other : ((d ≡ c) → ⊥) → bytes_under writes (key_of p.arrays c) ≡ Some bytes) where
       has_key : (v : List ℕ) → cell_value p env d ≡ Some v → (b : Bool) → bytes_eq (key_of p.arrays d) (key_of p.arrays c) ≡ b → (if b then Some v else bytes_under writes (key_of p.arrays c)) ≡ Some bytes
       has_key v is true same =
@@ -123,7 +123,7 @@ module _ (p : PlanView) (env : Elements) where
       has_maker (Some k) is = has_value (cell_value p env d) refl
 
     -- a made chunk that has a value is promised it
-    promised_has : (cs : List Cell) → ((c : Cell) → Contains cs c → IsChunk p.arrays c) → (c : Cell) (bytes : List ℕ) → Contains cs c → maker_at p.arrays c.array ≢ None
+    promised_has : (cs : List Cell) → ((c : Cell) → Contains cs c → IsStoredChunk p.arrays c) → (c : Cell) (bytes : List ℕ) → Contains cs c → maker_at p.arrays c.array ≢ None
         → cell_value p env c ≡ Some bytes → bytes_under (writes_of_chunks p env cs) (key_of p.arrays c) ≡ Some bytes
     promised_has [] all c bytes listed made value = absurd (none_in c listed)
     promised_has (d ∷ cs) all c bytes listed made value =
@@ -142,10 +142,10 @@ module _ (p : PlanView) (env : Elements) where
             → bytes_under (writes_of_chunks p env (plan_chunks p)) (key_of p.arrays c) ≡ cell_value p env c
         by None none None also = none ∙ sym also
         by u under (Some v) value =
-            promised_has (plan_chunks p) (listed_chunk p) c v (chunk_listed p c (piece.within, piece.coordinate)) piece.made value ∙ sym value
+            promised_has (plan_chunks p) (listed_chunk p) c v (chunk_listed p c (cell_chunk p.arrays c piece)) piece.made value ∙ sym value
         by (Some u) under None none =
             let (d, listed, made, same, value) = promised_is (plan_chunks p) (key_of p.arrays c) u under in
-            let one = apart d c (listed_chunk p d listed) (piece.within, piece.coordinate) same in
+            let one = apart d c (listed_chunk p d listed) (cell_chunk p.arrays c piece) same in
             under ∙ sym value ∙ ap (cell_value p env) one
 
     -- it is of bytes, of a chunk's length each

@@ -17,6 +17,7 @@ use Rattle.cu_zarr.specs.Stored.{element_in}
 use Rattle.cu_history.specs.History.{is_start, is_failed, count_kind}
 use Rattle.cu_op.specs.declared.cells.Cell.{Cell}
 use Rattle.cu_op.specs.Arrays.{layout_at, grid_at, maker_at}
+use Rattle.cu_op.specs.Cells.{IsChunk}
 use Rattle.cu_op.specs.Chunks.{cell}
 use Rattle.cu_op.specs.PlanView.{PlanView}
 use Rattle.cu_op.specs.Schedule.{key_of, cell_value}
@@ -43,6 +44,7 @@ use Rattle.cu_work.specs.Workers.{HasWorked}
 use Rattle.cu_work.specs.declared.outcome.Outcome.{Outcome}
 use Rattle.cu_work.specs.declared.outcome.Outcome.TheVariants as outcome
 use Rattle.cu_work.proofs.PlanChunks.{ChunksApart, chunks_apart, made_cell, cell_made, read_input, input_read}
+use Rattle.cu_work.proofs.StoredChunks.{given_stored, IsStoredChunk}
 use Rattle.cu_work.proofs.Resuming.{found_stays, found_seen}
 use Rattle.cu_work.proofs.Worked.{bad_of_input}
 use Rattle.cu_work.proofs.Promised.{promise_value, promise_fits, nothing_fits}
@@ -77,6 +79,10 @@ module _ (p : PlanView) (sound : Sound p) (apart : KeysApart (chunks_alone p)) (
 
   chunks : ChunksApart p
   chunks = chunks_apart r apart inputs
+
+  -- a chunk of an input is stored
+  as_stored : (c : Cell) → IsChunk p.arrays c → maker_at p.arrays c.array ≡ None → IsStoredChunk p.arrays c
+  as_stored c chunk given = (chunk, given_stored p c.array sound chunk.0 given)
 
   abbrev lent : Lent
   lent = lent_of p start.held
@@ -157,7 +163,7 @@ module _ (p : PlanView) (sound : Sound p) (apart : KeysApart (chunks_alone p)) (
     entry_same now entries tells a idx within given inside =
         let g = grid_at p.arrays a in
         let c = cell a (quotients idx g.chunk) in
-        let read = input_read p chunks c (within, has_coordinate g idx (grid_ok p a sound within) inside) given in
+        let read = input_read p chunks c (as_stored c (within, has_coordinate g idx (grid_ok p a sound within) inside) given) given in
         ap (λ (bytes : Option (List ℕ)). element_in (layout_at p.arrays a) bytes idx) (tells (key_of p.arrays c) read.0 read.1)
 
     values_of : (h : Option Contents) → mid.held ≡ h → ServesAs lent h yard → PromisesValues p yard.promise yard.entries
@@ -176,7 +182,7 @@ module _ (p : PlanView) (sound : Sound p) (apart : KeysApart (chunks_alone p)) (
     serves = record {
       cells = λ c piece. subst (λ (specs : List Spec). IsTrue (is_made specs (key_of p.arrays c))) (sym shared.specs) (cell_made p c piece);
       inputs = λ c chunk given.
-          let read = input_read p chunks c chunk given in
+          let read = input_read p chunks c (as_stored c chunk given) given in
           (subst (λ (specs : List Spec). IsTrue (is_served specs (key_of p.arrays c))) (sym shared.specs) read.0, ap (λ (specs : List Spec). is_made specs (key_of p.arrays c)) shared.specs ∙ read.1);
       values = values_of mid.held refl shared.tells;
     }
@@ -284,7 +290,7 @@ module _ (p : PlanView) (sound : Sound p) (apart : KeysApart (chunks_alone p)) (
         input_of (Some held) told (promise, (entries, is, tells)) key got want bad =
             let (c, chunk, given, is_key, is_want, differ, long) =
             subst (λ (o : Option Contents). IsBadOfInput p o yard.entries (fault.BadChunk key got want)) promise bad in
-            let read = input_read p chunks c chunk given in
+            let read = input_read p chunks c (as_stored c chunk given) given in
             let (bytes, there, size) = subst (λ (o : Option Contents). HoldsLength o key got) is long in
             let (after, told_new) = told_later (OrLate (PutPromised lent) mid.late) mid.held new.held held back.lands told in
             let was : held (key_of p.arrays c) ≡ Some bytes = sym (tells (key_of p.arrays c) read.0 read.1) ∙ ap entries (sym is_key) ∙ there in

@@ -10,7 +10,7 @@ use Rattle.cu_history.specs.History.{is_start, is_failed, count_kind, count_of_t
 use Rattle.cu_op.specs.Cells.{tasks_of}
 use Rattle.cu_op.specs.PlanView.{PlanView}
 use Rattle.cu_op.specs.Schedule.{op_of}
-use Rattle.cu_task.specs.Task.{calls_of}
+use Rattle.cu_task.specs.Calls.{calls_of}
 use Rattle.cu_table.specs.declared.state.TaskState.{TaskState}
 use Rattle.cu_table.specs.declared.state.Ending.{Ending}
 use Rattle.cu_table.specs.declared.state.Ending.TheVariants.{Halted}

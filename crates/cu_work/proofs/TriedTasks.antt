@@ -18,16 +18,20 @@ use Rattle.cu_op.specs.Schedule.{op_of, key_of}
 use Rattle.cu_op.specs.Sound.{Sound, IsCell}
 use Rattle.cu_op.specs.Elements.{Elements}
 use Rattle.cu_op.specs.Value.{plan_value}
-use Rattle.cu_op.specs.Walks.{read_chunks, written_chunks}
-use Rattle.cu_op.proofs.TaskCells.{fit_of, read_array, written_cell}
+use Rattle.cu_op.specs.Walks.{written_chunks}
+use Rattle.cu_op.specs.Within.{fetched_chunks}
+use Rattle.cu_op.proofs.TaskCells.{written_cell}
 use Rattle.cu_region.specs.Steady.{HoldsLength}
 use Rattle.cu_run_law.specs.Left.{IsLeft, Begun, RunChange}
 use Rattle.cu_run_law.specs.Pieces.{chunks_alone, Chunk, IsInputChunk, HoldsPiece, HoldsTask, piece_value}
 use Rattle.cu_run_law.proofs.Elements.{HaveRanges}
 use Rattle.cu_run_law.proofs.Keeping.{left_kept, piece_stays, begun_since}
 use Rattle.cu_run_law.proofs.Reading.{input_or_made, not_none, task_ready}
-use Rattle.cu_task.specs.Task.{TaskChange, HoldsCells, IsTaskReady, IsTaskFault, calls_of}
+use Rattle.cu_task.specs.Task.{TaskChange, HoldsCells, IsTaskReady, IsTaskFault}
+use Rattle.cu_task.specs.Calls.{calls_of}
+use Rattle.cu_table.specs.Numbers.{IsTask}
 use Rattle.cu_work.specs.Calls.{sum_of_first}
+use Rattle.cu_work.proofs.StoredChunks.{read_cell, read_stored, region}
 use Rattle.cu_work.proofs.Searching.{Fills, held_stays}
 use Rattle.cu_work.specs.Asked.{AreChosen, IsChosenAt}
 use Rattle.cu_work.specs.Part.{HasInputs, IsPartOf, TaskPut}
@@ -39,14 +43,17 @@ use Rattle.cu_work.specs.declared.trying.TaskMemory.{TaskMemory}
 -- ---- one task
 
 module _ (p : PlanView) (sound : Sound p) (k task : ℕ) (operation : k < length p.ops) (number : task < tasks_of p.arrays (op_of p k)) where
-  chunk_of : (c : Cell) → Contains (read_chunks p.arrays (op_of p k) task) c → IsChunk p.arrays c
-  chunk_of c listed = (read_array p sound k (op_of p k) (fit_of p sound k operation) task c number listed).1
+  a_task : IsTask p k task
+  a_task = record { operation = operation; number = number }
+
+  chunk_of : (c : Cell) → Contains (fetched_chunks p k task) c → IsChunk p.arrays c
+  chunk_of c listed = (read_stored p sound k task a_task c listed).0
 
   cell_of : (c : Cell) → Contains (written_chunks p.arrays (op_of p k) task) c → IsCell p.arrays c.array c.coord
   cell_of c listed = written_cell p sound k task c.array c.coord (record { operation = operation; number = number; cell = listed })
 
-  made_cell : (c : Cell) → Contains (read_chunks p.arrays (op_of p k) task) c → maker_at p.arrays c.array ≢ None → IsCell p.arrays c.array c.coord
-  made_cell c listed made = let chunk = chunk_of c listed in record { within = chunk.0; made = made; coordinate = chunk.1 }
+  made_cell : (c : Cell) → Contains (fetched_chunks p k task) c → maker_at p.arrays c.array ≢ None → IsCell p.arrays c.array c.coord
+  made_cell c listed made = read_cell p sound k task a_task c listed made
 
   pub put_runs : (first : Shown) → Within (TaskPut p k task first) (RunChange (chunks_alone p) first)
   put_runs first key value (c, bytes, listed, at, is, valued) = (Chunk c, bytes, cell_of c listed, at, is, valued)
@@ -57,13 +64,13 @@ module _ (p : PlanView) (sound : Sound p) (k task : ℕ) (operation : k < length
 -- ---- a moment at which the chunks are left so
 
 module _ (ranges : HaveRanges) (p : PlanView) (sound : Sound p) (k task : ℕ) (operation : k < length p.ops) (number : task < tasks_of p.arrays (op_of p k)) where
-  chunk : (c : Cell) → Contains (read_chunks p.arrays (op_of p k) task) c → IsChunk p.arrays c
+  chunk : (c : Cell) → Contains (fetched_chunks p k task) c → IsChunk p.arrays c
   chunk = chunk_of p sound k task operation number
 
   own_cell : (c : Cell) → Contains (written_chunks p.arrays (op_of p k) task) c → IsCell p.arrays c.array c.coord
   own_cell = cell_of p sound k task operation number
 
-  input_cell : (c : Cell) → Contains (read_chunks p.arrays (op_of p k) task) c → maker_at p.arrays c.array ≢ None → IsCell p.arrays c.array c.coord
+  input_cell : (c : Cell) → Contains (fetched_chunks p k task) c → maker_at p.arrays c.array ≢ None → IsCell p.arrays c.array c.coord
   input_cell = made_cell p sound k task operation number
 
   module _ (env : Elements) (now : Shown) (left : IsLeft (chunks_alone p) env now) where
@@ -85,7 +92,7 @@ module _ (ranges : HaveRanges) (p : PlanView) (sound : Sound p) (k task : ℕ) (
     ready_now has = record {
       held = left.held;
       told = left.told;
-      inputs = task_ready ranges (chunks_alone p) env now left k task operation number
+      inputs = task_ready ranges (chunks_alone p) env now left k task operation (region p sound k task (a_task p sound k task operation number))
           (λ c listed made. held_piece c (input_cell c listed made) (has (key_of p.arrays c) (c, listed, made, refl)));
       steady = λ c bytes listed among. elim (input_or_made (maker_at p.arrays c.array)) [
         | inl given ↦
@@ -104,7 +111,7 @@ module _ (ranges : HaveRanges) (p : PlanView) (sound : Sound p) (k task : ℕ) (
     same_bytes a b e = cc
 
     -- a chunk that is held with another length than a chunk's is an input's
-    pub of_input : (c : Cell) (got : ℕ) → Contains (read_chunks p.arrays (op_of p k) task) c → got ≢ chunk_room p.arrays c.array → HoldsLength now.held (key_of p.arrays c) got
+    pub of_input : (c : Cell) (got : ℕ) → Contains (fetched_chunks p k task) c → got ≢ chunk_room p.arrays c.array → HoldsLength now.held (key_of p.arrays c) got
         → IsInputChunk p.arrays c
     of_input c got listed bad length_is = elim (input_or_made (maker_at p.arrays c.array)) [
       | inl given ↦ let at = chunk c listed in record { within = at.0; given = given; coordinate = at.1 }

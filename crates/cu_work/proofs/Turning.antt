@@ -13,10 +13,10 @@ use Rattle.cu_op.specs.declared.cells.Cell.{Cell}
 use Rattle.cu_op.specs.Arrays.{maker_at}
 use Rattle.cu_op.specs.InputCells.{input_cells}
 use Rattle.cu_op.specs.PlanView.{PlanView}
-use Rattle.cu_op.specs.Schedule.{op_of, WritesCell}
+use Rattle.cu_op.specs.Schedule.{WritesCell}
 use Rattle.cu_op.specs.Sound.{Sound}
-use Rattle.cu_op.specs.Walks.{read_chunks}
-use Rattle.cu_op.proofs.TaskCells.{fit_of, read_array, some_task}
+use Rattle.cu_op.specs.Within.{fetched_chunks}
+use Rattle.cu_op.proofs.TaskCells.{some_task}
 use Rattle.cu_table.specs.declared.claim.Claim.{Claim}
 use Rattle.cu_table.specs.declared.claim.Claim.TheVariants as claim
 use Rattle.cu_table.specs.declared.state.Ending.TheVariants as ending
@@ -33,6 +33,7 @@ use Rattle.cu_board.specs.Views.{SeatAt}
 use Rattle.cu_board.specs.Board.{SeesDone, IsBadEntry, MayReport, IsCauseOf, IsResting, IsRunning, IsTurnOf, IsTableLeft, IsClaimTurn, IsReportTurn}
 use Rattle.cu_task.specs.Serving.{HasSeenInputs, HasSeenOutputs, IsBadOfInput}
 use Rattle.cu_task.specs.Task.{IsTaskFault}
+use Rattle.cu_work.proofs.StoredChunks.{read_cell}
 use Rattle.cu_work.specs.Alone.{IsDecided, Tried, halt_outcome}
 use Rattle.cu_work.specs.Workers.{IsWorkerOf, KnowsEnd, IsCausedBy}
 use Rattle.cu_work.specs.declared.outcome.Outcome.{Outcome}
@@ -68,14 +69,13 @@ task_after made v w op task copy k c = subst (λ (s : Settings). IsTask s.plan o
 
 -- each chunk of a made array that the task reads is an input cell, which some task writes
 abbrev pub WritesInputs : PlanView → ℕ → ℕ → Type 0
-WritesInputs p op task = (c : Cell) → Contains (read_chunks p.arrays (op_of p op) task) c → maker_at p.arrays c.array ≢ None
-    → Contains (input_cells p.arrays (op_of p op) task) c × ((k : ℕ) × (t : ℕ) × WritesCell p k t c.array c.coord)
+WritesInputs p op task = (c : Cell) → Contains (fetched_chunks p op task) c → maker_at p.arrays c.array ≢ None
+    → Contains (input_cells p op task) c × ((k : ℕ) × (t : ℕ) × WritesCell p k t c.array c.coord)
 
 pub writes_inputs : (p : PlanView) → Sound p → (op task : ℕ) → IsTask p op task
-    → ((c : Cell) → Contains (read_chunks p.arrays (op_of p op) task) c → Contains (input_cells p.arrays (op_of p op) task) c) → WritesInputs p op task
+    → ((c : Cell) → Contains (fetched_chunks p op task) c → Contains (input_cells p op task) c) → WritesInputs p op task
 writes_inputs p sound op task is needs c among made =
-    let chunk = read_array p sound op (op_of p op) (fit_of p sound op is.operation) task c is.number among in
-    (needs c among, some_task p sound c.array c.coord (record { within = chunk.1.0; made = made; coordinate = chunk.1.1 }))
+    (needs c among, some_task p sound c.array c.coord (read_cell p sound op task is c among made))
 
 -- where its inputs are done, a pass that has seen the cells of all done tasks has seen what it reads
 pub sees_inputs : (p : PlanView) (m : Machine) (op task : ℕ) (k : Known) → WritesInputs p op task → AreInputsDone p m op task → SeesDone p m k → HasSeenInputs p op task k.seen

@@ -5,18 +5,18 @@ use Rattle.std.proofs.lemmas.Slice.Eq.{bytes_eq-Decides}
 use Rattle.std.proofs.lemmas.Bool.{cases_Bool, cond-true, cond-false}
 use Rattle.std.proofs.lemmas.List.Elements.{All-contains, All-cons, All-push, All-nil}
 use Rattle.cu_store.specs.Held.{Contents}
-use Rattle.cu_op.specs.Arrays.{layout_at, grid_at, maker_at}
+use Rattle.cu_op.specs.Arrays.{layout_at, grid_at, is_inlined, maker_at}
 use Rattle.cu_op.specs.PlanView.{PlanView}
 use Rattle.cu_op.specs.Schedule.{op_of, key_of, cell_value, task_at, WritesCell, IsReady as IsReadyOf}
 use Rattle.cu_op.specs.Sound.{Sound, IsCell}
 use Rattle.cu_op.specs.Elements.{Elements}
 use Rattle.cu_op.specs.Value.{rule, plan_value, stored_inputs}
-use Rattle.cu_op.specs.Walks.{written_chunks, read_chunks}
+use Rattle.cu_op.specs.Walks.{written_chunks}
+use Rattle.cu_op.specs.Within.{fetched_chunks, with_inlined}
 use Rattle.cu_op.specs.declared.cells.Cell.{Cell}
 use Rattle.cu_op.specs.InputCells.{input_cells}
-use Rattle.cu_op.proofs.TaskInputs.{reads_same}
 use Rattle.cu_op.proofs.Plans.{grid_ok}
-use Rattle.cu_op.proofs.TaskCells.{fit_of, read_array, task_for, written_cell, ready_rule}
+use Rattle.cu_op.proofs.TaskCells.{makes_of, task_for, written_cell, ready_rule}
 use Rattle.cu_op.proofs.Spellings.{spelled_alike}
 use Rattle.cu_op.proofs.Values.{value_solves}
 use Rattle.cu_run_law.specs.Left.{IsLeft, Begun}
@@ -38,32 +38,26 @@ use Rattle.cu_table.specs.Machine.{Machine, with_task, copy_started, copy_ended,
 use Rattle.cu_table.specs.Step.{Settings, Step, StepOf, IsStart, ending_after}
 use Rattle.cu_table.proofs.Copies.{a_copy, All-without, some_copy}
 use Rattle.cu_table.proofs.Keeping.{Kept, state_same, state_other, same_task, counted, step_kept, opening_kept}
+use Rattle.cu_work.proofs.StoredChunks.{as_input, as_read, read_cell, region}
 use Rattle.cu_work.specs.World.{World, Event, Happens, AllHappen, PutsCell, computed, put_at, IsStored, IsFound, IsRight, still, first_world, started_by}
 
 abbrev IsReadyIn : PlanView → Elements → ℕ → ℕ → Contents → Type 0
 IsReadyIn p env op task held = IsReadyOf p op task env held
-
--- the input cells of a task are the chunks that it reads
-as_read : (p : PlanView) → Sound p → (op task : ℕ) → IsTask p op task → (c : Cell) → Contains (input_cells p.arrays (op_of p op) task) c → Contains (read_chunks p.arrays (op_of p op) task) c
-as_read p sound op task is c = (reads_same p.arrays (λ a l. grid_ok p a sound l) op (op_of p op) task c (fit_of p sound op is.operation) is.number).1
-
-pub as_input : (p : PlanView) → Sound p → (op task : ℕ) → IsTask p op task → (c : Cell) → Contains (read_chunks p.arrays (op_of p op) task) c → Contains (input_cells p.arrays (op_of p op) task) c
-as_input p sound op task is c = (reads_same p.arrays (λ a l. grid_ok p a sound l) op (op_of p op) task c (fit_of p sound op is.operation) is.number).0
 
 module _ (ranges : HaveRanges) (p : PlanView) (env : Elements) where
   -- ---- a put of what is computed
 
   -- where the made chunks that a task reads are held, what is computed is the value
   value_computed : (held : Contents) (left : IsLeft (chunks_alone p) env (still held)) (op task : ℕ) → IsTask p op task
-      → ((c : Cell) → Contains (read_chunks p.arrays (op_of p op) task) c → maker_at p.arrays c.array ≢ None → HoldsPiece (chunks_alone p) env (Chunk c) (still held))
+      → ((c : Cell) → Contains (fetched_chunks p op task) c → maker_at p.arrays c.array ≢ None → HoldsPiece (chunks_alone p) env (Chunk c) (still held))
       → (c : Cell) → Contains (written_chunks p.arrays (op_of p op) task) c → computed p op held c ≡ cell_value p env c
   value_computed held left op task is inputs c own =
-      let ready = task_ready ranges (chunks_alone p) env (still held) left op task is.operation is.number inputs in
+      let ready = task_ready ranges (chunks_alone p) env (still held) left op task is.operation (region p left.sound op task is) inputs in
       let writes : WritesCell p op task c.array c.coord = record { operation = is.operation; number = is.number; cell = own } in
       let there = written_cell p left.sound op task c.array c.coord writes in
       let same : left.held ≡ held = cc left.told in
-      spelled_alike (layout_at p.arrays c.array) (rule (op_of p op) p.arrays (stored_inputs p.arrays held) c.array) (plan_value p env c.array) c.coord (grid_ok p c.array left.sound there.within)
-      there.coordinate (λ idx within. ready_rule p left.sound op task c.array env held c.coord idx (subst (IsReadyIn p env op task) same ready) writes within)
+      spelled_alike (layout_at p.arrays c.array) (rule (op_of p op) p.arrays (with_inlined p (stored_inputs p.arrays held)) c.array) (plan_value p env c.array) c.coord (grid_ok p c.array left.sound there.within)
+      there.coordinate (λ idx within. ready_rule p left.sound op task c.array env held c.coord idx (subst (IsReadyIn p env op task) same ready) (makes_of p left.sound op task c.array c.coord writes) within)
 
   pub put_left : (held : Contents) (c : Cell) (bytes : List ℕ) → IsCell p.arrays c.array c.coord → cell_value p env c ≡ Some bytes
       → Begun (chunks_alone p) env 0 0 (still held) (still (put_at (key_of p.arrays c) bytes held))
@@ -222,20 +216,20 @@ start_is g old new e Late step is = cc
 
 module _ (ranges : HaveRanges) (g : Settings) (env : Elements) (old : World) (good : Good g env old) where
   -- the made chunks that a ready task reads are held
-  inputs_ready : (op task : ℕ) → IsTask g.plan op task → AreInputsDone g.plan old.machine op task → (c : Cell) → Contains (input_cells g.plan.arrays (op_of g.plan op) task) c → maker_at g.plan.arrays c.array ≢ None
+  inputs_ready : (op task : ℕ) → IsTask g.plan op task → AreInputsDone g.plan old.machine op task → (c : Cell) → Contains (input_cells g.plan op task) c → maker_at g.plan.arrays c.array ≢ None
       → HoldsPiece (chunks_alone g.plan) env (Chunk c) (still old.held)
   inputs_ready op task is ready c listed made =
       let sound = good.right.left.sound in
-      let chunk = read_array g.plan sound op (op_of g.plan op) (fit_of g.plan sound op is.operation) task c is.number (as_read g.plan sound op task is c listed) in
+      let piece = read_cell g.plan sound op task is c (as_read g.plan sound op task is c listed) made in
       elim (input_or_made (maker_at g.plan.arrays c.array)) [
         | inl given ↦ absurd (made given)
         | inr maker ↦
-            let w = task_for g.plan sound maker.0 c.array c.coord (record { within = chunk.1.0; made = made; coordinate = chunk.1.1 }) maker.1 in
+            let w = task_for g.plan sound maker.0 c.array c.coord piece maker.1 in
             let t = task_at g.plan.arrays (op_of g.plan maker.0) c in
             good.right.done maker.0 t (record { operation = w.operation; number = w.number }) (ready maker.0 t (c, listed, w)) c w.cell
       ]
 
-  inputs_start : (e : Entry) → IsStart g old.machine e → (c : Cell) → Contains (input_cells g.plan.arrays (op_of g.plan e.op) e.task) c → maker_at g.plan.arrays c.array ≢ None
+  inputs_start : (e : Entry) → IsStart g old.machine e → (c : Cell) → Contains (input_cells g.plan e.op e.task) c → maker_at g.plan.arrays c.array ≢ None
       → HoldsPiece (chunks_alone g.plan) env (Chunk c) (still old.held)
   inputs_start e can c listed made =
       elim can.can [
@@ -258,7 +252,7 @@ module _ (ranges : HaveRanges) (g : Settings) (env : Elements) (old : World) (go
           inputs = λ u c has listed made.
               elim (started_cases e.kind t u old.started has) [
                 | inl own ↦
-                    subst (λ (x : TaskId). Contains (input_cells g.plan.arrays (op_of g.plan x.op) x.task) c → HoldsPiece (chunks_alone g.plan) env (Chunk c) (still old.held)) own.1
+                    subst (λ (x : TaskId). Contains (input_cells g.plan x.op x.task) c → HoldsPiece (chunks_alone g.plan) env (Chunk c) (still old.held)) own.1
                     (λ l. inputs_start e (start_is g old.machine machine e e.kind step own.0) c l made) listed
                 | inr before ↦ good.right.inputs u c before listed made
               ];
@@ -293,8 +287,8 @@ module _ (ranges : HaveRanges) (g : Settings) (env : Elements) (old : World) (go
           left = left_kept (chunks_alone g.plan) env (still old.held) left 0 0 new begun;
           inputs = λ u d started listed made.
               let is = All-contains (λ (x : TaskId). IsTask g.plan x.op x.task) old.started u good.tasks started in
-              let chunk = read_array g.plan left.sound u.op (op_of g.plan u.op) (fit_of g.plan left.sound u.op is.operation) u.task d is.number (as_read g.plan left.sound u.op u.task is d listed) in
-              piece_stays (chunks_alone g.plan) env (still old.held) left 0 0 new begun (Chunk d) (record { within = chunk.1.0; made = made; coordinate = chunk.1.1 })
+              piece_stays (chunks_alone g.plan) env (still old.held) left 0 0 new begun (Chunk d)
+              (read_cell g.plan left.sound u.op u.task is d (as_read g.plan left.sound u.op u.task is d listed) made)
               (good.right.inputs u d started listed made);
           done = λ op other is done d own.
               piece_stays (chunks_alone g.plan) env (still old.held) left 0 0 new begun (Chunk d)
@@ -348,16 +342,16 @@ first_good ranges g env done held left found = record {
   tasks = All-nil (λ (x : TaskId). IsTask g.plan x.op x.task);
 }
 
--- the elements of each made array where all tasks are done
+-- the elements of each stored array where all tasks are done
 pub all_elements : HaveRanges → (p : PlanView) (env : Elements) (w : World) → IsRight p env w → AllDone p w.machine → (a : ℕ) (idx : List ℕ) → a < length p.arrays
-    → IsInside (grid_at p.arrays a).shape idx → stored_inputs p.arrays w.held a idx ≡ plan_value p env a idx
-all_elements ranges p env w right all a idx within inside =
+    → is_inlined p.arrays a ≡ false → IsInside (grid_at p.arrays a).shape idx → stored_inputs p.arrays w.held a idx ≡ plan_value p env a idx
+all_elements ranges p env w right all a idx within stored inside =
     let whole : IsComplete (chunks_alone p) env (still w.held) =
     all_held (chunks_alone p) env (still w.held) right.left.sound (λ n h. absurd (omega (arith, h))) (λ op task before. right.done op task (record { operation = before.0; number = before.1 })
     (all op task (record { operation = before.0; number = before.1 }))) in
     ap (λ (h : Contents). stored_inputs p.arrays h a idx) (sym (told_same right.left)) ∙ elim (input_or_made (maker_at p.arrays a)) [
       | inl given ↦ right.left.inputs a idx within given inside ∙ sym ((value_solves p env right.left.sound).inputs a idx given)
-      | inr maker ↦ elements_held ranges (chunks_alone p) env (still w.held) a idx right.left whole within (not_none (maker_at p.arrays a) maker.0 maker.1) inside
+      | inr maker ↦ elements_held ranges (chunks_alone p) env (still w.held) a idx right.left whole within (not_none (maker_at p.arrays a) maker.0 maker.1) stored inside
     ]
   where
     told_same : (left : IsLeft (chunks_alone p) env (still w.held)) → left.held ≡ w.held

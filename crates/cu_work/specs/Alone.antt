@@ -9,7 +9,8 @@ use Rattle.cu_history.specs.History.{is_failed, count_kind}
 use Rattle.cu_op.specs.PlanView.{PlanView}
 use Rattle.cu_region.specs.Passes.{IsLaterIn}
 use Rattle.cu_task.specs.Serving.{HasSeenOutputs, IsBadOfInput}
-use Rattle.cu_task.specs.Task.{TaskChange, calls_of, IsTaskFault}
+use Rattle.cu_task.specs.Task.{TaskChange, IsTaskFault}
+use Rattle.cu_task.specs.Calls.{calls_of}
 use Rattle.cu_table.specs.declared.state.Ending.TheVariants.{Broken, Halted}
 use Rattle.cu_table.specs.Numbers.{IsTask}
 use Rattle.cu_table.specs.Machine.{Machine, IsDone, AllDone}

@@ -3,7 +3,7 @@ use Rattle.std.specs.Prelude.{ℕ, zero, suc, ◌+◌, length}
 use Rattle.cu_op.specs.Cells.{tasks_of}
 use Rattle.cu_op.specs.PlanView.{PlanView}
 use Rattle.cu_op.specs.Schedule.{op_of}
-use Rattle.cu_task.specs.Task.{calls_of}
+use Rattle.cu_task.specs.Calls.{calls_of}
 use Rattle.cu_work.specs.declared.run.HeldTexts.{HeldTexts}
 use Rattle.cu_work.specs.declared.run.HeldTexts.TheVariants.{Neither, Record, Both}
 

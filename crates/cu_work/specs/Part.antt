@@ -9,7 +9,8 @@ use Rattle.cu_op.specs.Cells.{tasks_of}
 use Rattle.cu_op.specs.PlanView.{PlanView}
 use Rattle.cu_op.specs.Schedule.{op_of, key_of, cell_value}
 use Rattle.cu_op.specs.Elements.{Elements}
-use Rattle.cu_op.specs.Walks.{read_chunks, written_chunks}
+use Rattle.cu_op.specs.Walks.{written_chunks}
+use Rattle.cu_op.specs.Within.{fetched_chunks}
 use Rattle.cu_run_law.specs.Left.{IsLeft}
 use Rattle.cu_run_law.specs.Pieces.{chunks_alone}
 use Rattle.cu_work.specs.World.{IsStored}
@@ -32,7 +33,7 @@ LacksChunk p k task shown = (held : Contents) → shown.held ≡ Some held → I
 
 -- the key is that of a chunk which the task reads and an operation makes
 abbrev pub IsMadeInput : PlanView → ℕ → ℕ → List ℕ → Type 0
-IsMadeInput p k task key = (c : Cell) × Contains (read_chunks p.arrays (op_of p k) task) c
+IsMadeInput p k task key = (c : Cell) × Contains (fetched_chunks p k task) c
     × (maker_at p.arrays c.array ≢ None) × (key ≡ key_of p.arrays c)
 
 -- where contents are told, each such chunk is held

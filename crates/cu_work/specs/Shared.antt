@@ -1,5 +1,5 @@
 -- What a run of a plan shares of a depot, what it wants of it, and what its tasks have come to. This project's own rules.
-use Rattle.std.specs.Prelude.{◌≡◌, ℕ, ◌+◌, ◌≤◌, zero, suc, Bool, false, List, [], ◌∷◌, ◌++◌, length, map, replicate, Option, Some, None, is_some}
+use Rattle.std.specs.Prelude.{◌≡◌, ℕ, ◌+◌, ◌≤◌, zero, suc, Bool, false, List, [], ◌∷◌, ◌++◌, length, map, replicate, Option, Some, None, is_some, if◌then◌else◌}
 use Rattle.cu_store.specs.Faults.{Rose}
 use Rattle.cu_store.specs.Held.{Contents, Write}
 use Rattle.cu_store.specs.Steps.{Shown}
@@ -10,7 +10,7 @@ use Rattle.cu_grid.specs.Grid.{coordinate_of}
 use Rattle.cu_history.specs.History.{is_start, is_failed, count_kind}
 use Rattle.cu_op.specs.declared.cells.Cell.{Cell}
 use Rattle.cu_op.specs.declared.layout.ArrayInfo.{ArrayInfo}
-use Rattle.cu_op.specs.Arrays.{array_at, grid_at, maker_at, chunk_room, array_chunk_count}
+use Rattle.cu_op.specs.Arrays.{array_at, grid_at, is_inlined, maker_at, chunk_room, array_chunk_count}
 use Rattle.cu_op.specs.Chunks.{cell}
 use Rattle.cu_op.specs.PlanView.{PlanView}
 use Rattle.cu_op.specs.Schedule.{key_of, cell_value}
@@ -36,10 +36,14 @@ abbrev pub chunks_below : List ArrayInfo → ℕ → ℕ → List Cell
 chunks_below arrays a zero = []
 chunks_below arrays a (suc n) = chunks_below arrays a n ++ cell a (coordinate_of (grid_at arrays a) n) ∷ []
 
--- the chunks of the first n arrays
+-- those of an array that have keys: all, and none where they are made where they are read
+abbrev pub stored_chunks : List ArrayInfo → ℕ → List Cell
+stored_chunks arrays a = if is_inlined arrays a then [] else chunks_below arrays a (array_chunk_count (array_at arrays a))
+
+-- those of the first n arrays
 abbrev pub chunks_of_first : List ArrayInfo → ℕ → List Cell
 chunks_of_first arrays zero = []
-chunks_of_first arrays (suc n) = chunks_of_first arrays n ++ chunks_below arrays n (array_chunk_count (array_at arrays n))
+chunks_of_first arrays (suc n) = chunks_of_first arrays n ++ stored_chunks arrays n
 
 -- those of all arrays of a plan, the inputs included
 abbrev pub plan_chunks : PlanView → List Cell

@@ -5,7 +5,7 @@ use Rattle.std.specs.Prelude.{if◌then◌else◌}
 use Rattle.cu_history.specs.declared.entry.Entry.{Entry}
 use Rattle.cu_history.specs.History.{is_start, count_of_task}
 use Rattle.cu_op.specs.PlanView.{PlanView}
-use Rattle.cu_task.specs.Task.{calls_of}
+use Rattle.cu_task.specs.Calls.{calls_of}
 use Rattle.cu_table.specs.Numbers.{IsTask}
 use Rattle.cu_table.specs.Step.{Settings}
 use Rattle.cu_work.specs.Calls.{calls_of_tasks}

@@ -8,14 +8,14 @@ use Rattle.cu_store.specs.declared.faults.TaskFault.TheVariants as task
 use Rattle.cu_op.specs.declared.cells.Cell.{Cell}
 use Rattle.cu_op.specs.Arrays.{chunk_room}
 use Rattle.cu_op.specs.PlanView.{PlanView}
-use Rattle.cu_op.specs.Schedule.{op_of, key_of}
+use Rattle.cu_op.specs.Schedule.{key_of}
 use Rattle.cu_op.specs.Elements.{Elements}
-use Rattle.cu_op.specs.Walks.{read_chunks}
+use Rattle.cu_op.specs.Within.{fetched_chunks}
 use Rattle.cu_region.specs.Steady.{HoldsLength}
 use Rattle.cu_run_law.specs.Left.{IsLeft}
 use Rattle.cu_run_law.specs.Pieces.{chunks_alone, HoldsTask}
 use Rattle.cu_table.specs.declared.state.TaskId.{TaskId}
-use Rattle.cu_task.specs.Task.{calls_of}
+use Rattle.cu_task.specs.Calls.{calls_of}
 use Rattle.cu_work.specs.Calls.{sum_of_first}
 use Rattle.cu_work.specs.Drive.{IsInputKey}
 use Rattle.cu_work.specs.Asked.{IsChosenAt}
@@ -29,8 +29,8 @@ use Rattle.cu_work.specs.declared.part.PartFault.TheVariants.{Broken, BadChunk, 
 
 -- the memory is just what a task of the operation is lent
 pub record IsMemoryOf (p : PlanView) (op : ℕ) (m : TaskMemory) : Type 0 where
-  pub bytes : length m.bytes.items ≡ task_bytes p.arrays (op_of p op)
-  pub words : length m.words.items ≡ task_words (op_of p op)
+  pub bytes : length m.bytes.items ≡ task_bytes p op
+  pub words : length m.words.items ≡ task_words p op
 
 -- ---- one task
 
@@ -41,7 +41,7 @@ task_id op task = record { op = op; task = task }
 -- the key is that of a chunk that this task reads, which holds `got` bytes and not those of a chunk
 abbrev pub IsBadRead : PlanView → TaskId → Shown → List ℕ → ℕ → ℕ → Type 0
 IsBadRead p t shown key got want = (c : Cell)
-    × Contains (read_chunks p.arrays (op_of p t.op) t.task) c × (key ≡ key_of p.arrays c)
+    × Contains (fetched_chunks p t.op t.task) c × (key ≡ key_of p.arrays c)
     × (want ≡ chunk_room p.arrays c.array) × (got ≢ want) × HoldsLength shown.held key got
 
 -- A chunk that ends the tries of this task, which reads it. Where the chunks were left so at first it

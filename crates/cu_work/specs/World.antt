@@ -11,6 +11,7 @@ use Rattle.cu_op.specs.Elements.{Elements}
 use Rattle.cu_op.specs.Value.{rule, stored_inputs}
 use Rattle.cu_op.specs.InputCells.{input_cells}
 use Rattle.cu_op.specs.Walks.{written_chunks}
+use Rattle.cu_op.specs.Within.{with_inlined}
 use Rattle.cu_op.specs.declared.cells.Cell.{Cell}
 use Rattle.cu_run_law.specs.Left.{IsLeft}
 use Rattle.cu_run_law.specs.Pieces.{chunks_alone, Chunk, HoldsPiece, HoldsTask}
@@ -38,9 +39,10 @@ pub data Event : Type 0 where
   -- the run is stopped, and the machine is opened anew with this list of tasks that are done
   Stops : List Bool → Event
 
--- what a task writes to a cell, from what is held: the spelling of its operation's elements; none where one of them isn't defined
+-- what a task writes to a cell, from what is held and what is made of it where it is read: the spelling of its operation's elements; none
+-- where one of them isn't defined
 abbrev pub computed : PlanView → ℕ → Contents → Cell → Option (List ℕ)
-computed p op held c = spelled (layout_at p.arrays c.array) (rule (op_of p op) p.arrays (stored_inputs p.arrays held) c.array) c.coord
+computed p op held c = spelled (layout_at p.arrays c.array) (rule (op_of p op) p.arrays (with_inlined p (stored_inputs p.arrays held)) c.array) c.coord
 
 abbrev pub put_at : List ℕ → List ℕ → Contents → Contents
 put_at put bytes held key = if bytes_eq key put then Some bytes else held key
@@ -91,6 +93,6 @@ still held = record { held = Some held; late = []; faults = 0; calls = 0; lacks 
 -- that is done.
 pub record IsRight (p : PlanView) (env : Elements) (w : World) : Type 0 where
   pub left : IsLeft (chunks_alone p) env (still w.held)
-  pub inputs : (t : TaskId) (c : Cell) → Contains w.started t → Contains (input_cells p.arrays (op_of p t.op) t.task) c → maker_at p.arrays c.array ≢ None
+  pub inputs : (t : TaskId) (c : Cell) → Contains w.started t → Contains (input_cells p t.op t.task) c → maker_at p.arrays c.array ≢ None
       → HoldsPiece (chunks_alone p) env (Chunk c) (still w.held)
   pub done : (op task : ℕ) → IsTask p op task → IsDone p w.machine op task → HoldsTask (chunks_alone p) env op task (still w.held)

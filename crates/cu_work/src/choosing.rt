@@ -8,7 +8,8 @@ ghost use Rattle.cu_store.specs.Steps.{NoChange, Shown, Steps};
 ghost use Rattle.cu_op.specs.Arrays.{maker_at};
 ghost use Rattle.cu_op.specs.Cells.{IsChunk};
 ghost use Rattle.cu_op.specs.Schedule.{op_of, key_of};
-ghost use Rattle.cu_op.specs.Walks.{read_chunks, written_chunks};
+ghost use Rattle.cu_op.specs.Walks.{written_chunks};
+ghost use Rattle.cu_op.specs.Within.{fetched_chunks};
 ghost use Rattle.cu_work.specs.Asked.{AreChosen, HasAsked, IsAsking, IsLookUpFault, IsUnstarted, AskedOn, KeptOn, IsAbsent, IsChoice, IsChoiceFault, look_up_fault, own_chunks, asking_of};
 ghost use Rattle.cu_work.specs.Ended.{count_of_part};
 ghost use Rattle.cu_work.specs.Part.{IsInPart, IsPartOf, IsMadeInput, HasInputs, LacksChunk, LacksInput};
@@ -82,7 +83,7 @@ fn ask_cell<D: Depot>(
 ) -> Result<bool, FindFault>
     requires within { IsInPart part.now task }
     requires chunk { IsChunk plan.now.arrays cell.now }
-    requires read { Contains (read_chunks plan.now.arrays (op_of plan.now part.now.op) task) cell.now }
+    requires read { Contains (fetched_chunks plan.now part.now.op task) cell.now }
     ensures asked { (start : Shown) (own : ℕ) → LacksChunk plan.now part.now.op task start
         → IsAsking (asking_of plan.now part.now (retries + 1) start) own (contains_text known.old) (D.shown depot.old)
         → AskedOn (asking_of plan.now part.now (retries + 1) start) own (contains_text known.new) (D.shown depot.new) result

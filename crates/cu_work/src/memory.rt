@@ -5,7 +5,7 @@ ghost use Rattle.cu_op.specs.Arrays.{array_at, array_chunk_count, chunk_room};
 ghost use Rattle.cu_op.specs.Cells.{IsChunk};
 ghost use Rattle.cu_table.specs.Numbers.{task_count};
 ghost use Rattle.cu_work.specs.Rooms.{rooms_of, buffer_bytes, AreLentWithin};
-ghost use Rattle.cu_work.specs.Shared.{spec_of, specs_of, chunks_below, none_done, IsMemoryFor};
+ghost use Rattle.cu_work.specs.Shared.{spec_of, specs_of, chunks_below, stored_chunks, none_done, IsMemoryFor};
 ghost use Rattle.cu_work.specs.World.{IsFound};
 
 use crate::options::RunOptions;
@@ -71,13 +71,25 @@ fn push_specs(plan: &Plan, array: u32, specs: &mut Vec<Spec>) -> Result<(), NoMe
     Ok(())
 }
 
-/// The keys of all chunks of the plan's arrays, the inputs included.
+/// Appends the keys of the chunks of an array: none where they are made where they are read.
+fn push_stored(plan: &Plan, array: u32, specs: &mut Vec<Spec>) -> Result<(), NoMemory>
+    requires { array < length plan.now.arrays }
+    ensures { IfOk result (λ _. specs.new.items ≡ specs.old.items
+        ++ map (spec_of plan.now.arrays) (stored_chunks plan.now.arrays array)) }
+{
+    if plan.array(array).inlined {
+        return Ok(());
+    }
+    push_specs(plan, array, specs)
+}
+
+/// The keys of all chunks that the plan stores or reads from a store, those of its inputs included.
 fn make_specs(alloc: Global, plan: &Plan) -> Result<Vec<Spec>, NoMemory>
     ensures { IfOk result (λ specs. specs.items ≡ specs_of plan.now) }
 {
     let mut specs = Vec::new(alloc);
     for array in 0..plan.arrays().len() as u32 {
-        push_specs(plan, array, &mut specs)?;
+        push_stored(plan, array, &mut specs)?;
     }
     Ok(specs)
 }
@@ -130,7 +142,7 @@ fn make_rooms(alloc: Global, plan: &Plan, workers: u32) -> Result<Vec<Rooms>, No
 
 impl RunMemory {
     /// The memory for a run of the plan, of which these tasks are done, those of all operations in order. Each worker has the most
-    /// bytes and words that any task is lent: no more than an operation's memory and 512 bytes for each instruction of a kernel. The
+    /// bytes and words that any task is lent: no more than an operation's memory and 512 bytes for each instruction of its kernels. The
     /// Err is want of memory.
     pub fn make(
         alloc: Global,

@@ -1,9 +1,8 @@
 //! The memory that tasks are lent.
 ghost use Rattle.std.specs.Prelude.{◌≡◌, ◌<◌, IfOk, length};
-ghost use Rattle.cu_op.specs.Schedule.{op_of};
 ghost use Rattle.cu_work.specs.Rooms.{task_bytes, task_words, rooms_of};
 
-use cu_op::Plan;
+use cu_op::{Plan, projected, steps_within};
 use cu_store::NoMemory;
 use std::alloc::Global;
 use std::marker::Model;
@@ -49,16 +48,18 @@ impl Rooms {
 /// The bytes that a task of the operation is lent, besides its words.
 pub fn task_bytes(plan: &Plan, op: u32) -> usize
     requires { op < length plan.now.ops }
-    ensures { result ≡ task_bytes plan.now.arrays (op_of plan.now op) }
+    ensures { result ≡ task_bytes plan.now op }
 {
-    let planned = plan.operation(op);
-    (planned.projected - plan.reserved() - 512 * u64::from(planned.op.steps())) as usize
+    // that the plan is sound is told by the plan alone
+    let _ops = plan.ops();
+    (projected(plan, op) - plan.reserved() - 512 * steps_within(plan, op)) as usize
 }
 
 /// The words that a task of the operation is lent.
 pub fn task_words(plan: &Plan, op: u32) -> usize
     requires { op < length plan.now.ops }
-    ensures { result ≡ task_words (op_of plan.now op) }
+    ensures { result ≡ task_words plan.now op }
 {
-    64 * plan.operation(op).op.steps() as usize
+    let _ops = plan.ops();
+    64 * steps_within(plan, op) as usize
 }

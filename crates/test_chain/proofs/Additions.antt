@@ -1,5 +1,5 @@
 -- The plan of one sum is sound, and its keys are apart.
-use Rattle.std.proofs.Common.{◌≡◌, ◌≢◌, ◌⊎◌, inl, inr, ℕ, zero, suc, get_or, ◌<◌, ◌≤◌, ◌^◌, List, [], ◌∷◌, length, All, Contains, codes, Option, Some, None, refl, sym, ap, subst, arith}
+use Rattle.std.proofs.Common.{◌≡◌, ◌≢◌, ◌⊎◌, inl, inr, ℕ, zero, suc, get_or, ◌<◌, ◌≤◌, ◌^◌, true, false, List, [], ◌∷◌, length, All, Contains, codes, Option, Some, None, refl, sym, ap, subst, arith}
 use Rattle.std.proofs.lemmas.List.Elements.{All-cons, All-nil}
 use Rattle.cu_num.specs.Promotion.{promotion}
 use Rattle.cu_num.specs.declared.types.Dtype.TheVariants.{Int32}
@@ -8,12 +8,13 @@ use Rattle.cu_num.specs.declared.layout.Sep.TheVariants.{Slash}
 use Rattle.cu_name.specs.Keys.{record_key_of, made_prefix_of}
 use Rattle.cu_name.specs.Name.{IsArrayName}
 use Rattle.cu_zarr.specs.Key.{metadata_key_of}
-use Rattle.cu_op.specs.Arrays.{array_at, grid_at, maker_at, array_chunk_count}
+use Rattle.cu_op.specs.Arrays.{array_at, grid_at, is_inlined, maker_at, array_chunk_count}
 use Rattle.cu_op.specs.Layout.{IsArray}
 use Rattle.cu_op.specs.Operation.{writes_of, IsReadable, IsMadeBy}
 use Rattle.cu_op.specs.Aligned.{IsAligned}
-use Rattle.cu_op.specs.PlanView.{PlanView, operation_at}
-use Rattle.cu_op.specs.Sound.{Sound, IsOperation}
+use Rattle.cu_op.specs.PlanView.{PlanView, operation_at, op_of}
+use Rattle.cu_op.specs.Projection.{projection}
+use Rattle.cu_op.specs.Sound.{Sound, IsInlined, IsOperation}
 use Rattle.cu_op.proofs.KeyTexts.{keys_differ}
 use Rattle.cu_op.proofs.Singles.{same_aligned, add_fits}
 use Rattle.cu_store.specs.Steps.{Shown}
@@ -32,7 +33,7 @@ arrays_ok =
     let right = All-cons IsArray (array_under (codes "b") None) (array_under (codes "y") (Some 0) ∷ []) (array_ok (codes "b") None (omega arith)) made in
     All-cons IsArray (array_under (codes "a") None) (array_under (codes "b") None ∷ array_under (codes "y") (Some 0) ∷ []) (array_ok (codes "a") None (omega arith)) right
 
-sum_ok : promotion Int32 Int32 ≡ Some Int32 → IsOperation addition_arrays 0 0 (operation_at addition_plan.ops 0)
+sum_ok : promotion Int32 Int32 ≡ Some Int32 → IsOperation addition_arrays 0 (op_of addition_plan 0)
 sum_ok stays = record {
   reads = All-cons (IsReadable addition_arrays 0) 0 (1 ∷ []) (omega arith, tt) (All-cons (IsReadable addition_arrays 0) 1 [] (omega arith, tt) (All-nil (IsReadable addition_arrays 0)));
   writes = All-cons (IsMadeBy addition_arrays 0) 2 [] (omega arith, refl) (All-nil (IsMadeBy addition_arrays 0));
@@ -42,13 +43,28 @@ sum_ok stays = record {
         All-cons P 0 (1 ∷ []) (same_aligned six_in_fours grid_ok) (All-cons P 1 [] (same_aligned six_in_fours grid_ok) (All-nil P));
     kernel = add_fits Int32 tt stays;
   };
-  projected = refl;
-  room = omega arith;
 }
 
-each_ok : promotion Int32 Int32 ≡ Some Int32 → (k : ℕ) → k < 1 → IsOperation addition_arrays 0 k (operation_at addition_plan.ops k)
+each_ok : promotion Int32 Int32 ≡ Some Int32 → (k : ℕ) → k < 1 → IsOperation addition_arrays k (op_of addition_plan k)
 each_ok stays zero h = sum_ok stays
 each_ok stays (suc k) h = absurd (omega arith)
+
+projected_ok : (k : ℕ) → k < 1 → (operation_at addition_plan.ops k).projected ≡ projection addition_plan k
+projected_ok zero h = refl
+projected_ok (suc k) h = absurd (omega arith)
+
+room_ok : (k : ℕ) → k < 1 → projection addition_plan k < 2 ^ 64
+room_ok zero h = subst (λ (n : ℕ). n < 2 ^ 64) (projected_ok 0 h) (omega arith)
+room_ok (suc k) h = absurd (omega arith)
+
+stored : (a : ℕ) → is_inlined addition_arrays a ≡ false
+stored zero = refl
+stored (suc zero) = refl
+stored (suc (suc zero)) = refl
+stored (suc (suc (suc a))) = refl
+
+inlined_ok : (a : ℕ) → a < 3 → is_inlined addition_arrays a ≡ true → IsInlined addition_plan a
+inlined_ok a h inner = let own = stored a in cc
 
 maker_ok : (a k : ℕ) → a < 3 → maker_at addition_arrays a ≡ Some k → (k < 1) × Contains (writes_of (operation_at addition_plan.ops k).op) a
 maker_ok zero k h e = cc
@@ -80,9 +96,15 @@ few_chunks (suc (suc (suc a))) h e = absurd (omega arith)
 pub addition_sound : promotion Int32 Int32 ≡ Some Int32 → Sound addition_plan
 addition_sound stays = record {
   operations = each_ok stays;
+  projections = projected_ok;
+  rooms = room_ok;
+  inlined = inlined_ok;
   makers = maker_ok;
   arrays = arrays_ok;
-  keys = keys_differ addition_arrays arrays_ok (record { encodings = encoding_ok; prefixes = own_prefix });
+  keys = keys_differ addition_arrays arrays_ok (record {
+    encodings = λ a c. encoding_ok a c.within c.made;
+    prefixes = λ a b c d e. own_prefix a b c.within d.within c.made d.made e;
+  });
   out = omega arith;
   array_count = omega arith;
   operation_count = omega arith;
@@ -126,7 +148,7 @@ input_once (suc (suc zero)) b h k e f same = absurd (not_made 0 e)
 input_once (suc (suc (suc a))) b h k e f same = absurd (omega arith)
 
 names : HasPlanNames named_addition (codes "y") [] []
-names = record { named = short_name 121 (omega arith) (omega arith); texts = refl; encodings = encoded; made = made_name; inputs = input_name; once = input_once }
+names = record { named = short_name 121 (omega arith) (omega arith); texts = refl; encodings = λ a c. encoded a c.within c.made; made = λ a c. made_name a c.within c.made; inputs = input_name; once = input_once }
 
 -- ---- what a run wants of it
 

@@ -1,15 +1,16 @@
 -- The plan of two sums is sound.
-use Rattle.std.proofs.Common.{◌≡◌, ◌≢◌, ℕ, zero, suc, ◌<◌, ◌≤◌, List, [], ◌∷◌, length, All, Contains, codes, Option, Some, None, refl, subst, arith}
+use Rattle.std.proofs.Common.{◌≡◌, ◌≢◌, ℕ, zero, suc, ◌^◌, ◌<◌, ◌≤◌, true, false, List, [], ◌∷◌, length, All, Contains, codes, Option, Some, None, refl, subst, arith}
 use Rattle.std.proofs.lemmas.List.Elements.{All-cons, All-nil}
 use Rattle.cu_num.specs.Promotion.{promotion}
 use Rattle.cu_num.specs.declared.types.Dtype.TheVariants.{Int32}
 use Rattle.cu_grid.specs.Grid.{IsGrid}
-use Rattle.cu_op.specs.Arrays.{array_at, grid_at, maker_at, array_chunk_count}
+use Rattle.cu_op.specs.Arrays.{array_at, grid_at, is_inlined, maker_at, array_chunk_count}
 use Rattle.cu_op.specs.Layout.{IsArray}
 use Rattle.cu_op.specs.Operation.{writes_of, IsReadable, IsMadeBy}
 use Rattle.cu_op.specs.Aligned.{IsAligned}
-use Rattle.cu_op.specs.PlanView.{operation_at}
-use Rattle.cu_op.specs.Sound.{Sound, IsOperation}
+use Rattle.cu_op.specs.PlanView.{operation_at, op_of}
+use Rattle.cu_op.specs.Projection.{projection}
+use Rattle.cu_op.specs.Sound.{Sound, IsInlined, IsOperation}
 use Rattle.cu_op.proofs.KeyTexts.{keys_differ}
 use Rattle.cu_op.proofs.Singles.{same_aligned, add_fits}
 use Rattle.test_chain.specs.Chain.{six_in_fours, array_under, chain_arrays, chain_plan}
@@ -33,7 +34,7 @@ arrays_ok =
     let right = All-cons IsArray (array_under (codes "b") None) (array_under (codes "_cubed/y/0") (Some 0) ∷ array_under (codes "y") (Some 1) ∷ []) (array_ok (codes "b") None (omega arith)) made in
     All-cons IsArray (array_under (codes "a") None) (array_under (codes "b") None ∷ array_under (codes "_cubed/y/0") (Some 0) ∷ array_under (codes "y") (Some 1) ∷ []) (array_ok (codes "a") None (omega arith)) right
 
-first_ok : promotion Int32 Int32 ≡ Some Int32 → IsOperation chain_arrays 0 0 (operation_at chain_plan.ops 0)
+first_ok : promotion Int32 Int32 ≡ Some Int32 → IsOperation chain_arrays 0 (op_of chain_plan 0)
 first_ok stays = record {
   reads = All-cons (IsReadable chain_arrays 0) 0 (1 ∷ []) (omega arith, tt) (All-cons (IsReadable chain_arrays 0) 1 [] (omega arith, tt) (All-nil (IsReadable chain_arrays 0)));
   writes = All-cons (IsMadeBy chain_arrays 0) 2 [] (omega arith, refl) (All-nil (IsMadeBy chain_arrays 0));
@@ -43,11 +44,9 @@ first_ok stays = record {
         All-cons P 0 (1 ∷ []) (same_aligned six_in_fours grid_ok) (All-cons P 1 [] (same_aligned six_in_fours grid_ok) (All-nil P));
     kernel = add_fits Int32 tt stays;
   };
-  projected = refl;
-  room = omega arith;
 }
 
-second_ok : promotion Int32 Int32 ≡ Some Int32 → IsOperation chain_arrays 0 1 (operation_at chain_plan.ops 1)
+second_ok : promotion Int32 Int32 ≡ Some Int32 → IsOperation chain_arrays 1 (op_of chain_plan 1)
 second_ok stays = record {
   reads = All-cons (IsReadable chain_arrays 1) 2 (1 ∷ []) (omega arith, omega arith) (All-cons (IsReadable chain_arrays 1) 1 [] (omega arith, tt) (All-nil (IsReadable chain_arrays 1)));
   writes = All-cons (IsMadeBy chain_arrays 1) 3 [] (omega arith, refl) (All-nil (IsMadeBy chain_arrays 1));
@@ -57,14 +56,32 @@ second_ok stays = record {
         All-cons P 2 (1 ∷ []) (same_aligned six_in_fours grid_ok) (All-cons P 1 [] (same_aligned six_in_fours grid_ok) (All-nil P));
     kernel = add_fits Int32 tt stays;
   };
-  projected = refl;
-  room = omega arith;
 }
 
-each_ok : promotion Int32 Int32 ≡ Some Int32 → (k : ℕ) → k < 2 → IsOperation chain_arrays 0 k (operation_at chain_plan.ops k)
+each_ok : promotion Int32 Int32 ≡ Some Int32 → (k : ℕ) → k < 2 → IsOperation chain_arrays k (op_of chain_plan k)
 each_ok stays zero h = first_ok stays
 each_ok stays (suc zero) h = second_ok stays
 each_ok stays (suc (suc k)) h = absurd (omega arith)
+
+projected_ok : (k : ℕ) → k < 2 → (operation_at chain_plan.ops k).projected ≡ projection chain_plan k
+projected_ok zero h = refl
+projected_ok (suc zero) h = refl
+projected_ok (suc (suc k)) h = absurd (omega arith)
+
+room_ok : (k : ℕ) → k < 2 → projection chain_plan k < 2 ^ 64
+room_ok zero h = subst (λ (n : ℕ). n < 2 ^ 64) (projected_ok 0 h) (omega arith)
+room_ok (suc zero) h = subst (λ (n : ℕ). n < 2 ^ 64) (projected_ok 1 h) (omega arith)
+room_ok (suc (suc k)) h = absurd (omega arith)
+
+stored : (a : ℕ) → is_inlined chain_arrays a ≡ false
+stored zero = refl
+stored (suc zero) = refl
+stored (suc (suc zero)) = refl
+stored (suc (suc (suc zero))) = refl
+stored (suc (suc (suc (suc a)))) = refl
+
+inlined_ok : (a : ℕ) → a < 4 → is_inlined chain_arrays a ≡ true → IsInlined chain_plan a
+inlined_ok a h inner = let own = stored a in cc
 
 maker_ok : (a k : ℕ) → a < 4 → maker_at chain_arrays a ≡ Some k → (k < 2) × Contains (writes_of (operation_at chain_plan.ops k).op) a
 maker_ok zero k h e = cc
@@ -103,9 +120,15 @@ few_chunks (suc (suc (suc (suc a)))) h e = absurd (omega arith)
 pub chain_sound : promotion Int32 Int32 ≡ Some Int32 → Sound chain_plan
 chain_sound stays = record {
   operations = each_ok stays;
+  projections = projected_ok;
+  rooms = room_ok;
+  inlined = inlined_ok;
   makers = maker_ok;
   arrays = arrays_ok;
-  keys = keys_differ chain_arrays arrays_ok (record { encodings = encoding_ok; prefixes = own_prefix });
+  keys = keys_differ chain_arrays arrays_ok (record {
+    encodings = λ a c. encoding_ok a c.within c.made;
+    prefixes = λ a b c d e. own_prefix a b c.within d.within c.made d.made e;
+  });
   out = omega arith;
   array_count = omega arith;
   operation_count = omega arith;

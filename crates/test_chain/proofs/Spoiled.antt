@@ -125,7 +125,7 @@ pub early_spoils : IsLeft (chunks_alone chain_plan) env (still spoiled.held) →
 early_spoils left =
     let same : left.held ≡ spoiled.held = cc left.told in
     let here : left.held (key_of chain_arrays first_of_y) ≡ Some four_zeros = ap (λ (h : Contents). h (key_of chain_arrays first_of_y)) same ∙ put_there in
-    elim (left.pieces (Chunk first_of_y) (record { within = omega arith; made = λ e. cc; coordinate = (omega arith, tt) })) [
+    elim (left.pieces (Chunk first_of_y) (record { within = omega arith; made = λ e. cc; stored = refl; coordinate = (omega arith, tt) })) [
       | inl none ↦ absurd (cc (sym here ∙ none))
       | inr (bytes, has, value) ↦ not_ones (sym here ∙ (has ∙ (sym value ∙ right_value)))
     ]
@@ -180,7 +180,7 @@ input_once (suc (suc (suc zero))) b h k e f same = absurd (not_made 1 e)
 input_once (suc (suc (suc (suc a)))) b h k e f same = absurd (omega arith)
 
 names : HasPlanNames named_run (codes "y") [] []
-names = record { named = short_name 121 (omega arith) (omega arith); texts = refl; encodings = encoded; made = made_name; inputs = input_name; once = input_once }
+names = record { named = short_name 121 (omega arith) (omega arith); texts = refl; encodings = λ a c. encoded a c.within c.made; made = λ a c. made_name a c.within c.made; inputs = input_name; once = input_once }
 
 held_elsewhere : (key : List ℕ) → key ≢ codes "a/c/0" → ones_held key ≡ None
 held_elsewhere key apart = elim (cases_Bool (bytes_eq key (codes "a/c/0"))) [
@@ -212,7 +212,7 @@ module _ (stays : promotion Int32 Int32 ≡ Some Int32) (typed : HasTypes chain_
   absent_first =
       let sound = chain_sound stays in
       let apart = keys_apart named_run (codes "y") [] [] sound names in
-      piece_absent apart (Chunk (cell 2 (0 ∷ []))) (record { within = omega arith; made = λ e. not_made 0 e; coordinate = (omega arith, tt) })
+      piece_absent apart (Chunk (cell 2 (0 ∷ []))) (record { within = omega arith; made = λ e. not_made 0 e; stored = refl; coordinate = (omega arith, tt) })
 
   -- where the first task is called done though its chunk is absent, the world isn't right
   pub unstored_spoils : (w : World) → w.held ≡ ones_held → state_at chain_plan w.machine 0 0 ≡ record { done = true; failures = 0; copies = 0 } → IsRight chain_plan env w → ⊥
@@ -245,7 +245,7 @@ abbrev pub unstored_events : List Event
 unstored_events = Steps (own_entry Start) ∷ Steps (own_entry Done) ∷ []
 
 -- the first task reads inputs alone
-given : (c : Cell) → Contains (input_cells chain_arrays (op_of chain_plan 0) 0) c → maker_at chain_arrays c.array ≡ None
+given : (c : Cell) → Contains (input_cells chain_plan 0 0) c → maker_at chain_arrays c.array ≡ None
 given c (zero, below, is) = ap (λ (x : Cell). maker_at chain_arrays x.array) (sym is)
 given c (suc zero, below, is) = ap (λ (x : Cell). maker_at chain_arrays x.array) (sym is)
 given c (suc (suc n), below, is) = absurd (omega (arith, below))

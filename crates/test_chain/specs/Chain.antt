@@ -1,5 +1,5 @@
 -- The plan of two sums, of which the second reads what the first makes; and that of one sum.
-use Rattle.std.specs.Prelude.{ℕ, pos, List, [], ◌∷◌, Option, Some, None, codes}
+use Rattle.std.specs.Prelude.{ℕ, pos, false, List, [], ◌∷◌, Option, Some, None, codes}
 use Rattle.cu_num.specs.declared.types.Dtype.TheVariants.{Int32}
 use Rattle.cu_num.specs.declared.layout.Encoding.TheVariants.{Plain}
 use Rattle.cu_num.specs.declared.layout.Sep.TheVariants.{Slash}
@@ -18,6 +18,7 @@ array_under name maker = record {
   prefix = name;
   layout = record { dtype = Int32; grid = six_in_fours; encoding = Plain Slash; endian = Little; fill = pos 0 };
   maker = maker;
+  inlined = false;
 }
 
 abbrev pub chain_arrays : List ArrayInfo

@@ -56,6 +56,7 @@ fn array(prefix: Key, grid: Grid, maker: Option<u32>) -> ArrayInfo
             fill: 0,
         },
         maker,
+        inlined: false,
     }
 }
 

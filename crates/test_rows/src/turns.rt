@@ -101,6 +101,7 @@ fn options_of(said: &Said<'_>) -> Result<Options>
         retries: 0,
         workers: 1,
         backups: false,
+        fusion: 1,
     })
 }
 

@@ -9,7 +9,7 @@ use Rattle.cu_op.proofs.Kind.{Laws, Stands, Keeps}
 use Rattle.cu_op.proofs.MapRegions.{within_lengths}
 use Rattle.cu_op.proofs.NewNumbers.{grid_same, type_same, room_same}
 use Rattle.cu_op.proofs.ResultRanges.{fold_range}
-use Rattle.cu_op.proofs.Results.{differ_only, nested_only, none_given}
+use Rattle.cu_op.proofs.Results.{differ_only, nested_only, none_given, not_one}
 use Rattle.cu_op.proofs.Rooms.{any_room_few, next_few}
 use Rattle.cu_op.proofs.SameCells.{HaveSame, same_more}
 use Rattle.cu_op.specs.Along.{CarriesFor, carried_array, carried_chunk, carried_reads, carried_walks, chunk_on, group_walk}
@@ -142,6 +142,10 @@ carry_laws axis group sums above out = record {
       λ i. reduced_to Sum (type_at arrays out) (first i ++ rest i);
   listed = λ arrays idx a i reads. elim reads [ inl same ↦ (0, omega arith, sym same.0) | inr same ↦ carried_listed sums above a same.0 ];
   target = (0, omega arith, refl);
+  one_written = λ one. absurd (not_one one);
+  one_grid = λ arrays one. absurd (not_one one);
+  one_room = λ arrays one. absurd (not_one one);
+  one_read = λ arrays d w s here among by. absurd by;
   grid = λ arrays s. s.grids out (s.writes 0 0 (omega arith));
   nested = λ arrays s. nested_only arrays out (s.grids out (s.writes 0 0 (omega arith)));
   differ = λ arrays lo hi s. differ_only out lo hi;

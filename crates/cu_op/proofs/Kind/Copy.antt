@@ -7,7 +7,7 @@ use Rattle.cu_num.specs.declared.types.Dtype.{Dtype}
 use Rattle.cu_op.proofs.Filled.{filled_region}
 use Rattle.cu_op.proofs.Kind.{Laws}
 use Rattle.cu_op.proofs.NewNumbers.{grid_same, type_same}
-use Rattle.cu_op.proofs.Results.{only_written, differ_only, none_given}
+use Rattle.cu_op.proofs.Results.{only_written, differ_only, none_given, not_one}
 use Rattle.cu_op.proofs.Rooms.{size_few, times_few}
 use Rattle.cu_op.proofs.SameCells.{of_one, box_same}
 use Rattle.cu_op.proofs.WalksOf.{over_one, apart_one, first_of_walks}
@@ -25,6 +25,10 @@ copy_laws region source out = record {
   alone = λ arrays at other array idx h. h source idx (refl, refl);
   listed = λ arrays idx a i reads. (0, omega arith, sym reads.0);
   target = (0, omega arith, refl);
+  one_written = λ one. absurd (not_one one);
+  one_grid = λ arrays one. absurd (not_one one);
+  one_room = λ arrays one. absurd (not_one one);
+  one_read = λ arrays d w s here among by. absurd by;
   grid = λ arrays s. s.fits.regions;
   nested = λ arrays s.
       let P : ℕ → Type 0 = λ a. IsNested (grid_at arrays a) (region_grid (grid_at arrays out) region) in

@@ -1,4 +1,7 @@
 -- What is proved of a fold.
+use Rattle.cu_op.specs.declared.walks.Walk.{Walk}
+use Rattle.cu_op.specs.Chunks.{IsOneChunk}
+use Rattle.cu_op.proofs.Members.{only_member}
 use Rattle.cu_grid.specs.Counts.{chunk_lo, chunk_hi}
 use Rattle.cu_num.specs.declared.folds.FoldKind.{FoldKind}
 use Rattle.cu_op.proofs.Alike.{same_mapped}
@@ -10,7 +13,7 @@ use Rattle.cu_op.proofs.PlanGroups.{chunk_ranks}
 use Rattle.cu_op.proofs.ResultRanges.{fold_range}
 use Rattle.cu_op.proofs.Results.{differ_only, nested_only, none_given}
 use Rattle.cu_op.proofs.Rooms.{any_room_few}
-use Rattle.cu_op.proofs.SameCells.{of_one, folded_same}
+use Rattle.cu_op.proofs.SameCells.{of_one, folded_same, folded_one}
 use Rattle.cu_op.proofs.WalksOf.{over_one, apart_one, first_of_walks}
 use Rattle.cu_op.specs.Arrays.{grid_at, type_at}
 use Rattle.cu_op.specs.Kind.Fold.{fold_kind}
@@ -22,7 +25,7 @@ use Rattle.cu_origin.specs.Pull.{has_axis}
 use Rattle.cu_origin.specs.declared.axes.Axes.{Axes}
 use Rattle.cu_reduce.specs.Folds.{reduced_to}
 use Rattle.cu_reduce.specs.Groups.{group_indices, group_of}
-use Rattle.std.proofs.Common.{ℕ, List, [], ◌∷◌, All, refl, sym, arith, map, ap}
+use Rattle.std.proofs.Common.{ℕ, List, [], ◌∷◌, All, refl, sym, arith, map, ap, subst}
 use Rattle.std.proofs.lemmas.List.Elements.{All-head}
 
 pub fold_laws : (kind : FoldKind) (axes : Axes) (source out : ℕ) → Laws (fold_kind kind axes source out)
@@ -31,6 +34,14 @@ fold_laws kind axes source out = record {
       ap (reduced_to kind (type_at arrays out)) (same_mapped (at source) (other source) (partial_indices arrays (chunk_groups axes (grid_at arrays source)) source out idx) (λ i c. h source i (refl, c)));
   listed = λ arrays idx a i reads. (0, omega arith, sym reads.0);
   target = (0, omega arith, refl);
+  one_written = λ one. refl;
+  one_grid = λ arrays one. refl;
+  one_room = λ arrays one. refl;
+  one_read = λ arrays d w s here among by.
+      let g = grid_at arrays out in
+      let own = partial_walk arrays (chunk_groups axes (grid_at arrays source)) source out (chunk_lo g.chunk d) (chunk_hi g.shape g.chunk d) in
+      subst (λ (v : Walk). IsOneChunk (grid_at arrays v.array) v.region) (only_member own w among)
+      (folded_one arrays s.grids (has_axis axes) source out d (s.reads 0 0 (omega arith)) (s.writes 0 0 (omega arith)) s.fits.result here);
   grid = λ arrays s. s.grids out (s.writes 0 0 (omega arith));
   nested = λ arrays s. nested_only arrays out (s.grids out (s.writes 0 0 (omega arith)));
   differ = λ arrays lo hi s. differ_only out lo hi;

@@ -1,4 +1,6 @@
 -- What is proved of a fold by labels.
+use Rattle.cu_op.specs.declared.walks.Walk.{Walk}
+use Rattle.cu_op.specs.Chunks.{IsOneChunk}
 use Rattle.cu_grid.proofs.Regions.{coordinate-length}
 use Rattle.cu_grid.specs.Counts.{chunk_lo, chunk_hi, IsWithin}
 use Rattle.cu_grid.specs.Grid.{IsCoordinate}
@@ -11,12 +13,12 @@ use Rattle.cu_op.proofs.Kind.{Laws, Stands, Keeps}
 use Rattle.cu_op.proofs.NewNumbers.{grid_same, type_same, room_same}
 use Rattle.cu_op.proofs.Results.{differ_only, nested_only, none_given}
 use Rattle.cu_op.proofs.Rooms.{any_room_few}
-use Rattle.cu_op.proofs.SameCells.{HaveSame, of_two, operand_same}
+use Rattle.cu_op.proofs.SameCells.{HaveSame, of_two, operand_same, operand_one}
 use Rattle.cu_op.proofs.Spans.{chunk_span}
 use Rattle.cu_op.proofs.WalksOf.{over_two, apart_two, first_of_walks, second_of_walks}
 use Rattle.cu_op.specs.Along.{size_on, chunk_on}
 use Rattle.cu_op.specs.Arrays.{grid_at, type_at}
-use Rattle.cu_op.specs.Grouping.{source_index, label_chunks, part_places, grouped_walk, labels_walk}
+use Rattle.cu_op.specs.Grouping.{source_index, label_chunks, part_places, grouped_walk, labels_walk, label_part}
 use Rattle.cu_op.specs.Kind.GroupFold.{group_fold_kind, GroupFoldFits}
 use Rattle.cu_op.specs.Matrix.{HasParts}
 use Rattle.cu_op.specs.Walks.{IsWalkOver, cells_of_walks}
@@ -24,8 +26,8 @@ use Rattle.cu_op.specs.declared.cells.Cell.{Cell}
 use Rattle.cu_op.specs.declared.layout.ArrayInfo.{ArrayInfo}
 use Rattle.cu_reduce.specs.Kinds.{Accumulates}
 use Rattle.cu_reduce.specs.Labels.{grouped_to, marked, with_label}
-use Rattle.std.proofs.Common.{◌≡◌, ℕ, ◌+◌, ◌<◌, List, [], ◌∷◌, ◌++◌, length, All, Option, set, slice_index, refl, sym, ◌∙◌, subst, arith, ℤ, ap, inl, inr}
-use Rattle.std.proofs.lemmas.List.Elements.{All-head, All-tail}
+use Rattle.std.proofs.Common.{◌≡◌, ℕ, ◌+◌, ◌<◌, List, [], ◌∷◌, ◌++◌, length, All, Option, set, slice_index, refl, sym, ◌∙◌, subst, arith, ℤ, ap, inl, inr, Contains}
+use Rattle.std.proofs.lemmas.List.Elements.{All-head, All-tail, All-contains, All-cons, All-nil}
 use mathlib.Core.Path.{transport}
 
 pub group_fold_laws : (kind : FoldKind) (axis groups source labels out : ℕ) → Laws (group_fold_kind kind axis groups source labels out)
@@ -38,6 +40,10 @@ group_fold_laws kind axis groups source labels out = record {
       ∙ ap (with_label (other labels (k ∷ []))) (h source (source_index g axis idx k) (k, c, inl (refl, refl)))));
   listed = λ arrays idx a i reads. elim reads.2 [ inl same ↦ (0, omega arith, sym same.0) | inr same ↦ (1, omega arith, sym same.0) ];
   target = (0, omega arith, refl);
+  one_written = λ one. refl;
+  one_grid = λ arrays one. refl;
+  one_room = λ arrays one. refl;
+  one_read = λ arrays d w s here among by. group_one arrays d w s here among;
   grid = λ arrays s. s.grids out (s.writes 0 0 (omega arith));
   nested = λ arrays s. nested_only arrays out (s.grids out (s.writes 0 0 (omega arith)));
   differ = λ arrays lo hi s. differ_only out lo hi;
@@ -112,6 +118,29 @@ group_fold_laws kind axis groups source labels out = record {
         (source_box arrays kind axis groups source labels out s.fits ok okl oko d here filled) (source_span arrays kind axis groups source labels out s.fits ok okl oko lo hi filled span))
         (operand_same arrays labels _ _ _ c okl (All-head (IsWalkOver arrays) y [] (All-tail (IsWalkOver arrays) x (y ∷ []) over)) (labels_long arrays kind axis groups source labels out s.fits ok okl oko d here filled)
         (labels_box arrays kind axis groups source labels out s.fits ok okl oko d here filled) (labels_span arrays kind axis groups source labels out s.fits ok okl oko lo hi filled span))
+
+    group_one : (arrays : List ArrayInfo) (d : List ℕ) (w : Walk) → Stands arrays (group_fold_kind kind axis groups source labels out) → IsCoordinate (grid_at arrays out) d
+        → Contains ((group_fold_kind kind axis groups source labels out).walks arrays (chunk_lo (grid_at arrays out).chunk d) (chunk_hi (grid_at arrays out).shape (grid_at arrays out).chunk d)) w
+        → IsOneChunk (grid_at arrays w.array) w.region
+    group_one arrays d w s here among =
+        let g = grid_at arrays out in
+        let from = grid_at arrays source in
+        let ok = s.grids source (s.reads 0 0 (omega arith)) in
+        let okl = s.grids labels (s.reads 1 0 (omega arith)) in
+        let oko = s.grids out (s.writes 0 0 (omega arith)) in
+        let lo = chunk_lo g.chunk d in
+        let hi = chunk_hi g.shape g.chunk d in
+        let filled = chunk_filled g.shape g.chunk d oko.positive oko.ranks here in
+        let span = chunk_span g.shape g.chunk d oko.ranks (coordinate-length g d oko here) in
+        let P : Walk → Type 0 = λ v. IsOneChunk (grid_at arrays v.array) v.region in
+        All-contains P (grouped_walk from axis source lo hi ∷ labels_walk from axis labels lo hi ∷ []) w
+        (All-cons P (grouped_walk from axis source lo hi) (labels_walk from axis labels lo hi ∷ [])
+        (operand_one arrays source (source_index from axis d (label_part from d)) (grouped_walk from axis source lo hi).region.lo (grouped_walk from axis source lo hi).region.hi ok (source_long arrays kind axis groups source labels out s.fits ok okl oko d here filled)
+        (source_box arrays kind axis groups source labels out s.fits ok okl oko d here filled) (source_span arrays kind axis groups source labels out s.fits ok okl oko lo hi filled span))
+        (All-cons P (labels_walk from axis labels lo hi) []
+        (operand_one arrays labels (label_part from d ∷ []) (labels_walk from axis labels lo hi).region.lo (labels_walk from axis labels lo hi).region.hi okl (labels_long arrays kind axis groups source labels out s.fits ok okl oko d here filled)
+        (labels_box arrays kind axis groups source labels out s.fits ok okl oko d here filled) (labels_span arrays kind axis groups source labels out s.fits ok okl oko lo hi filled span))
+        (All-nil P))) among
 
     group_fits : (f : ℕ → ℕ) (old new : List ArrayInfo) → Keeps f old new (group_fold_kind kind axis groups source labels out) → GroupFoldFits old kind axis groups source labels out
         → GroupFoldFits new kind axis groups (f source) (f labels) (f out)

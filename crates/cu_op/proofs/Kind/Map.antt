@@ -5,7 +5,7 @@ use Rattle.cu_num.specs.Dtype.{InRange}
 use Rattle.cu_num.specs.declared.types.Dtype.{Dtype}
 use Rattle.cu_op.proofs.Alike.{same_kernel, same_given}
 use Rattle.cu_op.proofs.CellsOfTasks.{map_contains}
-use Rattle.cu_op.proofs.Filled.{IsFilled, filled_region, chunk_filled}
+use Rattle.cu_op.proofs.Filled.{IsFilled, filled_region, chunk_filled, contains_mapped}
 use Rattle.cu_op.proofs.KernelRanges.{kernel_range}
 use Rattle.cu_op.proofs.Kind.{Laws, Stands, ReadsTypes}
 use Rattle.cu_op.proofs.MapRegions.{read_within, within_lengths, read_over}
@@ -13,10 +13,10 @@ use Rattle.cu_op.proofs.NewNumbers.{given_same, grid_same, type_same, types_same
 use Rattle.cu_op.proofs.PairRanges.{some_map, some_then}
 use Rattle.cu_op.proofs.Results.{only_written, differ_only, nested_only, none_given}
 use Rattle.cu_op.proofs.Rooms.{any_room_few, room_few}
-use Rattle.cu_op.proofs.SameCells.{HaveSame, same_list, of_each, read_same}
+use Rattle.cu_op.proofs.SameCells.{HaveSame, same_list, of_each, read_same, read_one}
 use Rattle.cu_op.proofs.WalksOf.{LiesIn, apart_each, own_arrays}
 use Rattle.cu_op.specs.Arrays.{grid_at, type_at, chunk_room, HasLayoutOf}
-use Rattle.cu_op.specs.Chunks.{cell}
+use Rattle.cu_op.specs.Chunks.{cell, IsOneChunk}
 use Rattle.cu_op.specs.KernelTypes.{KernelFits, LoadsTypes}
 use Rattle.cu_op.specs.Kind.Map.{map_kind, loaded, read_walk}
 use Rattle.cu_op.specs.Aligned.{IsAligned}
@@ -28,7 +28,7 @@ use Rattle.cu_op.specs.declared.layout.ArrayInfo.{ArrayInfo}
 use Rattle.cu_op.specs.declared.walks.Walk.{Walk}
 use Rattle.cu_shape.proofs.Places.{inside-length}
 use Rattle.cu_shape.specs.Index.{IsInside, back}
-use Rattle.std.proofs.Common.{◌≡◌, ℕ, List, [], ◌∷◌, length, All, Contains, get_or, refl, sym, ◌∙◌, subst, arith, map, ap, ◌≤◌, ◌*◌, ◌^◌}
+use Rattle.std.proofs.Common.{◌≡◌, ℕ, List, [], ◌∷◌, length, All, Contains, get_or, refl, sym, ◌∙◌, subst, arith, map, ap, ◌≤◌, ◌*◌, ◌^◌, ◌<◌}
 use Rattle.std.proofs.Math.Nat.{mul-le-mul_right}
 use Rattle.std.proofs.lemmas.List.Concat.{flat_map_single}
 use Rattle.std.proofs.lemmas.List.Elements.{All-contains, All-contains_itself, All-map}
@@ -86,6 +86,16 @@ map_laws code ins out = record {
       (λ a e. h a (back (grid_at arrays a).shape idx) ((j, slice_get_within ins j a e, get_or_from_slice_get ins j a a e), refl)));
   listed = λ arrays idx a i reads. reads.0;
   target = (0, omega arith, refl);
+  one_written = λ one. refl;
+  one_grid = λ arrays one. refl;
+  one_room = λ arrays one. refl;
+  one_read = λ arrays d w s here among by.
+      let g = grid_at arrays out in
+      let f : ℕ → Walk = read_walk arrays (chunk_lo g.chunk d) (chunk_hi g.shape g.chunk d) in
+      let (a, listed, is) = contains_mapped f ins w among in
+      let within = All-contains (λ b. b < length arrays) ins a s.reads listed in
+      let aligned = All-contains (λ b. IsAligned (grid_at arrays b) g) ins a s.fits.inputs listed in
+      subst (λ (v : Walk). IsOneChunk (grid_at arrays v.array) v.region) is (read_one arrays a g d (s.grids a within) (s.grids out (s.writes 0 0 (omega arith))) aligned here);
   grid = λ arrays s. s.grids out (s.writes 0 0 (omega arith));
   nested = λ arrays s. nested_only arrays out (s.grids out (s.writes 0 0 (omega arith)));
   differ = λ arrays lo hi s. differ_only out lo hi;

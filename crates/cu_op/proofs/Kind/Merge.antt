@@ -24,6 +24,10 @@ merge_laws kind axis group source out = record {
       ap (reduced_to kind (type_at arrays out)) (same_mapped (at source) (other source) (partial_indices arrays (merge_groups axis group (grid_at arrays source)) source out idx) (λ i c. h source i (refl, c)));
   listed = λ arrays idx a i reads. (0, omega arith, sym reads.0);
   target = (0, omega arith, refl);
+  one_written = λ one. refl;
+  one_grid = λ arrays one. refl;
+  one_room = λ arrays one. refl;
+  one_read = λ arrays d w s here among by. absurd by;
   grid = λ arrays s. s.grids out (s.writes 0 0 (omega arith));
   nested = λ arrays s. nested_only arrays out (s.grids out (s.writes 0 0 (omega arith)));
   differ = λ arrays lo hi s. differ_only out lo hi;

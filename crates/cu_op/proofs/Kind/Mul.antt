@@ -42,6 +42,10 @@ mul_laws left right out = record {
       ∙ ap (product_at (other left (left_index a b own k))) (h right (right_index a b own k) (k, c, inr (refl, refl)))));
   listed = λ arrays idx a i reads. elim reads.2 [ inl same ↦ (0, omega arith, sym same.0) | inr same ↦ (1, omega arith, sym same.0) ];
   target = (0, omega arith, refl);
+  one_written = λ one. refl;
+  one_grid = λ arrays one. refl;
+  one_room = λ arrays one. refl;
+  one_read = λ arrays d w s here among by. absurd by;
   grid = λ arrays s. s.grids out (s.writes 0 0 (omega arith));
   nested = λ arrays s. nested_only arrays out (s.grids out (s.writes 0 0 (omega arith)));
   differ = λ arrays lo hi s. differ_only out lo hi;

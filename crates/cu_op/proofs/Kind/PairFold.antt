@@ -1,4 +1,7 @@
 -- What is proved of a pair fold.
+use Rattle.cu_op.specs.declared.walks.Walk.{Walk}
+use Rattle.cu_op.specs.Chunks.{IsOneChunk}
+use Rattle.cu_op.proofs.Members.{only_member}
 use Rattle.cu_grid.specs.Counts.{chunk_lo, chunk_hi}
 use Rattle.cu_num.specs.Dtype.{InRange}
 use Rattle.cu_op.proofs.Alike.{same_mapped}
@@ -8,9 +11,9 @@ use Rattle.cu_op.proofs.Kind.{Laws, Stands}
 use Rattle.cu_op.proofs.NewNumbers.{bool_same, pairs_renumbered, grid_same, place_kept, pair_fits, place_axis, room_same, value_room_same}
 use Rattle.cu_op.proofs.PairRanges.{best_listed, found_parts, place_range, pair_range}
 use Rattle.cu_op.proofs.PlanGroups.{chunk_ranks}
-use Rattle.cu_op.proofs.Results.{pair_last, nested_pair, differ_pair, pair_compares, pair_stored, pair_only, type_stored}
+use Rattle.cu_op.proofs.Results.{pair_last, nested_pair, differ_pair, pair_compares, pair_stored, pair_only, type_stored, not_one}
 use Rattle.cu_op.proofs.Rooms.{any_room_few}
-use Rattle.cu_op.proofs.SameCells.{of_one, folded_same}
+use Rattle.cu_op.proofs.SameCells.{of_one, folded_same, folded_one}
 use Rattle.cu_op.proofs.WalksOf.{over_one, apart_one, first_of_walks}
 use Rattle.cu_op.specs.Arrays.{grid_at}
 use Rattle.cu_op.specs.Kind.PairFold.{pair_fold_kind}
@@ -35,6 +38,14 @@ pair_fold_laws least axis source values out = record {
       (λ i c. ap (λ (e : Option ℤ). found_at e (Some (pos (counted_place axis shape i)))) (h source i (refl, c))));
   listed = λ arrays idx a i reads. (0, omega arith, sym reads.0);
   target = pair_last values out;
+  one_written = λ one. absurd (not_one one);
+  one_grid = λ arrays one. absurd (not_one one);
+  one_room = λ arrays one. absurd (not_one one);
+  one_read = λ arrays d w s here among by.
+      let g = grid_at arrays out in
+      let own = partial_walk arrays (place_groups axis (grid_at arrays source)) source out (chunk_lo g.chunk d) (chunk_hi g.shape g.chunk d) in
+      subst (λ (v : Walk). IsOneChunk (grid_at arrays v.array) v.region) (only_member own w among)
+      (folded_one arrays s.grids (is_sought axis) source out d (s.reads 0 0 (omega arith)) (made arrays s.writes) s.fits.1.result here);
   grid = λ arrays s. s.grids out (made arrays s.writes);
   nested = λ arrays s. nested_pair arrays values source out s.fits.1.stored (s.grids out (made arrays s.writes));
   differ = λ arrays lo hi s. differ_pair arrays values source out lo hi s.fits.1.stored;

@@ -9,7 +9,7 @@ use Rattle.cu_op.proofs.Kind.{Laws}
 use Rattle.cu_op.proofs.NewNumbers.{bool_same, pairs_renumbered, grid_same, type_same, merge_along, place_kept, pair_fits, room_same, value_room_same}
 use Rattle.cu_op.proofs.PairRanges.{best_listed, found_parts, pair_range}
 use Rattle.cu_op.proofs.PlanGroups.{merge_ranks, place_squeezed, place_within}
-use Rattle.cu_op.proofs.Results.{pair_last, nested_pair, differ_pair, pair_compares, pair_stored, pair_only, type_stored}
+use Rattle.cu_op.proofs.Results.{pair_last, nested_pair, differ_pair, pair_compares, pair_stored, pair_only, type_stored, not_one}
 use Rattle.cu_op.proofs.Rooms.{any_room_few, group_few}
 use Rattle.cu_op.proofs.SameCells.{of_two, merged_same}
 use Rattle.cu_op.proofs.WalksOf.{apart_each, over_two, first_of_walks, second_of_walks}
@@ -33,6 +33,10 @@ pair_merge_laws least axis group value_source place_source values out = record {
       (λ i c. ap (λ (e : Option ℤ). found_at e (at place_source i)) (h value_source i (inl refl, c)) ∙ ap (found_at (other value_source i)) (h place_source i (inr refl, c))));
   listed = λ arrays idx a i reads. elim reads.0 [ inl same ↦ (0, omega arith, sym same) | inr same ↦ (1, omega arith, sym same) ];
   target = pair_last values out;
+  one_written = λ one. absurd (not_one one);
+  one_grid = λ arrays one. absurd (not_one one);
+  one_room = λ arrays one. absurd (not_one one);
+  one_read = λ arrays d w s here among by. absurd by;
   grid = λ arrays s. s.grids out (made arrays s.writes);
   nested = λ arrays s. nested_pair arrays values value_source out s.fits.2.stored (s.grids out (made arrays s.writes));
   differ = λ arrays lo hi s. differ_pair arrays values value_source out lo hi s.fits.2.stored;

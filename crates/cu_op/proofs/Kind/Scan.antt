@@ -1,8 +1,9 @@
 -- What is proved of a scan.
+use Rattle.cu_op.specs.declared.walks.Walk.{Walk}
 use Rattle.cu_grid.specs.Counts.{chunk_lo, chunk_hi, IsWithin}
 use Rattle.cu_grid.specs.Grid.{RegularGrid, IsGrid, IsCoordinate}
 use Rattle.cu_num.specs.declared.folds.FoldKind.TheVariants.{Sum}
-use Rattle.cu_op.proofs.AlongAxis.{IsCarried, array_renumbered, carried_alike, carried_apart, carried_in, carried_listed, carried_renumbered, carried_room_few, carried_same, carried_walked, carries_renumbered, chunked_grid, ends_on, group_over, group_reads, room_renumbered, same_group, span_alike}
+use Rattle.cu_op.proofs.AlongAxis.{IsCarried, array_renumbered, carried_alike, carried_apart, carried_in, carried_listed, carried_renumbered, carried_room_few, carried_same, carried_walked, carries_renumbered, chunked_grid, ends_on, group_over, group_reads, room_renumbered, same_group, span_alike, carried_first}
 use Rattle.cu_op.proofs.Filled.{IsFilled, chunk_filled, filled_at, filled_lengths, within_at}
 use Rattle.cu_op.proofs.InputBoxes.{own_chunk}
 use Rattle.cu_op.proofs.Kind.{Laws, Stands, Keeps}
@@ -14,7 +15,7 @@ use Rattle.cu_op.proofs.Rooms.{any_room_few}
 use Rattle.cu_op.proofs.SameCells.{HaveSame, same_more}
 use Rattle.cu_op.specs.Along.{CarriesFor, carried_array, carried_chunk, carried_reads, carried_walks, chunk_on, group_walk}
 use Rattle.cu_op.specs.Arrays.{grid_at, type_at, HasLayoutOf}
-use Rattle.cu_op.specs.Chunks.{chunk_where}
+use Rattle.cu_op.specs.Chunks.{chunk_where, IsOneChunk}
 use Rattle.cu_op.specs.Kind.Scan.{ScanFits, scan_kind}
 use Rattle.cu_op.specs.Partial.{place_groups}
 use Rattle.cu_op.specs.Walks.{IsWalkOver, cells_of_walks, walk_cells}
@@ -25,7 +26,7 @@ use Rattle.cu_reduce.specs.Kinds.{Accumulates}
 use Rattle.cu_reduce.specs.Levels.{carried}
 use Rattle.cu_reduce.specs.Prefix.{line_through, span}
 use Rattle.cu_reduce.specs.Tiers.{Array, scan_at}
-use Rattle.std.proofs.Common.{◌≡◌, inl, inr, ℕ, suc, pred, ◌<◌, ◌≤◌, ◌+◌, ◌*◌, ◌/◌, List, ◌∷◌, ◌++◌, length, set, All, Option, Some, option_map, get_or, refl, ap, sym, ◌∙◌, subst, arith}
+use Rattle.std.proofs.Common.{◌≡◌, inl, inr, ℕ, suc, pred, ◌<◌, ◌≤◌, ◌+◌, ◌*◌, ◌/◌, List, ◌∷◌, ◌++◌, length, set, All, Option, Some, option_map, get_or, refl, ap, sym, ◌∙◌, subst, arith, Contains}
 use Rattle.std.proofs.lemmas.List.{set-get_or}
 use Rattle.std.proofs.lemmas.List.Elements.{All-contains, All-head}
 use mathlib.Core.Path.{transport}
@@ -63,7 +64,7 @@ module _ (axis source : ℕ) (carry : Option ℕ) (out : ℕ) where
       group_over arrays axis (chunk_on (grid_at arrays source) axis) source s.fits.along (some arrays s) carry (get_or hi axis 0) lo hi (s.reads 0 0 (omega arith)) (are_carried arrays s) filled
       (let x = at.0 in omega (arith, x)) at.1
 
-  module _ (arrays : List ArrayInfo) (d : List ℕ) (c : Cell) (s : Stands arrays (scan_kind axis source carry out)) (here : IsCoordinate (grid_at arrays source) d) where
+  module _ (arrays : List ArrayInfo) (d : List ℕ) (s : Stands arrays (scan_kind axis source carry out)) (here : IsCoordinate (grid_at arrays source) d) where
     abbrev g : RegularGrid
     g = grid_at arrays source
 
@@ -92,20 +93,31 @@ module _ (axis source : ℕ) (carry : Option ℕ) (out : ℕ) where
     filled : IsFilled (grid_at arrays out).shape lo hi
     filled = subst (λ (r : RegularGrid). IsFilled r.shape lo hi) (sym s.fits.grid) (chunk_filled g.shape g.chunk d ok.positive ok.ranks here)
 
-    own : HaveSame (walk_cells arrays (group_walk source axis size (get_or hi axis 0) lo hi)) (chunk_where arrays source d) c
-    own =
-        own_chunk arrays source (set lo axis (get_or lo axis 0 / size * size)) (set hi axis (get_or hi axis 0)) d c ok
-        (All-head (IsWalkOver arrays) (group_walk source axis size (get_or hi axis 0) lo hi) (carried_walks carry axis size lo hi) (scan_over arrays lo hi s filled)) (ends_on g d axis ok here s.fits.along).long begins
-        (set-get_or hi axis 0)
+    one : IsOneChunk g (group_walk source axis size (get_or hi axis 0) lo hi).region
+    one = record { coord = d; long = (ends_on g d axis ok here s.fits.along).long; begins = begins; ends = set-get_or hi axis 0 }
 
-    carries : HaveSame (cells_of_walks arrays (carried_walks carry axis size lo hi)) (carried_chunk arrays carry (set d axis (get_or lo axis 0 / size))) c
-    carries = carried_same arrays axis size source s.fits.along (some arrays s) carry d c ok here (are_carried arrays s) (last ∙ sym first)
+    pub scan_one : (w : Walk) → Contains ((scan_kind axis source carry out).walks arrays (chunk_lo (grid_at arrays out).chunk d) (chunk_hi (grid_at arrays out).shape (grid_at arrays out).chunk d)) w → w.array ≡ source
+        → IsOneChunk (grid_at arrays w.array) w.region
+    scan_one w among by =
+        let there = subst (λ (r : RegularGrid). Contains ((scan_kind axis source carry out).walks arrays (chunk_lo r.chunk d) (chunk_hi r.shape r.chunk d)) w) s.fits.grid among in
+        let own = carried_first (group_walk source axis size (get_or hi axis 0) lo hi) carry axis size lo hi w (λ a e same. (are_carried arrays s a e).other (sym same ∙ by)) there in
+        subst (λ (v : Walk). IsOneChunk (grid_at arrays v.array) v.region) own one
 
-    scan_same : HaveSame (cells_of_walks arrays ((scan_kind axis source carry out).walks arrays (chunk_lo (grid_at arrays out).chunk d) (chunk_hi (grid_at arrays out).shape (grid_at arrays out).chunk d))) ((scan_kind axis source carry out).cells arrays d) c
-    scan_same =
-        subst (λ (r : RegularGrid). HaveSame (cells_of_walks arrays ((scan_kind axis source carry out).walks arrays (chunk_lo r.chunk d) (chunk_hi r.shape r.chunk d))) ((scan_kind axis source carry out).cells arrays d) c) (sym s.fits.grid)
-        (same_more (walk_cells arrays (group_walk source axis size (get_or hi axis 0) lo hi)) (chunk_where arrays source d) (cells_of_walks arrays (carried_walks carry axis size lo hi)) (carried_chunk arrays carry d) c
-        own (subst (λ (e : List ℕ). HaveSame (cells_of_walks arrays (carried_walks carry axis size lo hi)) (carried_chunk arrays carry e) c) (ap (set d axis) first ∙ set-get_or d axis 0) carries))
+    module _ (c : Cell) where
+      own : HaveSame (walk_cells arrays (group_walk source axis size (get_or hi axis 0) lo hi)) (chunk_where arrays source d) c
+      own =
+          own_chunk arrays source (set lo axis (get_or lo axis 0 / size * size)) (set hi axis (get_or hi axis 0)) d c ok
+          (All-head (IsWalkOver arrays) (group_walk source axis size (get_or hi axis 0) lo hi) (carried_walks carry axis size lo hi) (scan_over arrays lo hi s filled)) (ends_on g d axis ok here s.fits.along).long begins
+          (set-get_or hi axis 0)
+
+      carries : HaveSame (cells_of_walks arrays (carried_walks carry axis size lo hi)) (carried_chunk arrays carry (set d axis (get_or lo axis 0 / size))) c
+      carries = carried_same arrays axis size source s.fits.along (some arrays s) carry d c ok here (are_carried arrays s) (last ∙ sym first)
+
+      scan_same : HaveSame (cells_of_walks arrays ((scan_kind axis source carry out).walks arrays (chunk_lo (grid_at arrays out).chunk d) (chunk_hi (grid_at arrays out).shape (grid_at arrays out).chunk d))) ((scan_kind axis source carry out).cells arrays d) c
+      scan_same =
+          subst (λ (r : RegularGrid). HaveSame (cells_of_walks arrays ((scan_kind axis source carry out).walks arrays (chunk_lo r.chunk d) (chunk_hi r.shape r.chunk d))) ((scan_kind axis source carry out).cells arrays d) c) (sym s.fits.grid)
+          (same_more (walk_cells arrays (group_walk source axis size (get_or hi axis 0) lo hi)) (chunk_where arrays source d) (cells_of_walks arrays (carried_walks carry axis size lo hi)) (carried_chunk arrays carry d) c
+          own (subst (λ (e : List ℕ). HaveSame (cells_of_walks arrays (carried_walks carry axis size lo hi)) (carried_chunk arrays carry e) c) (ap (set d axis) first ∙ set-get_or d axis 0) carries))
 
   kept : (f : ℕ → ℕ) (old new : List ArrayInfo) → Keeps f old new (scan_kind axis source carry out) → (a : ℕ) → carry ≡ Some a → HasLayoutOf f old new a
   kept f old new s a e = All-contains (HasLayoutOf f old new) (source ∷ carried_reads carry) a s.reads (carried_listed source carry a e)
@@ -137,6 +149,10 @@ scan_laws axis source carry out = record {
       λ i. reduced_to Sum (type_at arrays out) (first i ++ rest i);
   listed = λ arrays idx a i reads. elim reads [ inl same ↦ (0, omega arith, sym same.0) | inr same ↦ carried_listed source carry a same.0 ];
   target = (0, omega arith, refl);
+  one_written = λ one. refl;
+  one_grid = λ arrays one. refl;
+  one_room = λ arrays one. refl;
+  one_read = λ arrays d w s here among by. scan_one axis source carry out arrays d s (subst (λ (g : RegularGrid). IsCoordinate g d) s.fits.grid here) w among by;
   grid = λ arrays s. s.grids out (s.writes 0 0 (omega arith));
   nested = λ arrays s. nested_only arrays out (s.grids out (s.writes 0 0 (omega arith)));
   differ = λ arrays lo hi s. differ_only out lo hi;
@@ -151,7 +167,7 @@ scan_laws axis source carry out = record {
         | inl same ↦ group_reads arrays axis size source s.fits.along (some axis source carry out arrays s) carry (get_or hi axis 0) lo hi idx i a same.1 w l same.2 (let x = same.3 in omega (arith, x, last)) same.0 same.4
         | inr same ↦ carried_in arrays axis size source s.fits.along (some axis source carry out arrays s) (group_walk source axis size (get_or hi axis 0) lo hi) carry lo hi idx i a w l same.0 same.1
       ];
-  same = λ arrays d c s here. scan_same axis source carry out arrays d c s (subst (λ (g : RegularGrid). IsCoordinate g d) s.fits.grid here);
+  same = λ arrays d c s here. scan_same axis source carry out arrays d s (subst (λ (g : RegularGrid). IsCoordinate g d) s.fits.grid here) c;
   range = λ arrays at a idx x among fits inside typed reads v.
       let j = get_or idx axis 0 in
       let s = chunk_on (grid_at arrays source) axis in

@@ -11,7 +11,7 @@ use Rattle.cu_op.specs.declared.layout.ArrayInfo.{ArrayInfo}
 use Rattle.cu_op.specs.declared.operation.Op.TheVariants.{Carry}
 use Rattle.cu_reduce.specs.Tiers.{carry_at}
 use Rattle.std.specs.List.{range_with_len}
-use Rattle.std.specs.Prelude.{◌≡◌, ◌⊎◌, ℕ, pred, ◌+◌, ◌-◌, ◌*◌, ◌/◌, ◌<◌, ◌≤◌, [], ◌∷◌, ◌++◌, List, length, Option, Some, None, option_map, codes, map, slice_index, slice_set}
+use Rattle.std.specs.Prelude.{◌≡◌, ◌⊎◌, ℕ, pred, ◌+◌, ◌-◌, ◌*◌, ◌/◌, ◌<◌, ◌≤◌, [], ◌∷◌, ◌++◌, List, length, Option, Some, None, option_map, codes, map, slice_index, slice_set, false}
 
 -- the sums stand in chunks of one along the axis; what comes before them has their grid and type
 pub record CarryFits (arrays : List ArrayInfo) (axis group sums : ℕ) (above : Option ℕ) (out : ℕ) : Type 0 where
@@ -29,6 +29,8 @@ carry_kind axis group sums above out = record {
   reads = sums ∷ carried_reads above;
   writes = out ∷ [];
   target = out;
+  one_chunk = false;
+  by_chunk = λ arrays a. ⊥;
   fits = λ arrays. CarryFits arrays axis group sums above out;
   tasks = λ arrays. grid_at arrays out;
   walks = λ arrays lo hi. group_walk sums axis group (pred (slice_index hi axis)) lo hi ∷ carried_walks above axis group lo hi;

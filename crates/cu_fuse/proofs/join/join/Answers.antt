@@ -6,7 +6,7 @@ use Rattle.cu_op.specs.declared.operation.Op.TheVariants.{Map}
 use Rattle.cu_op.specs.Arrays.{type_at}
 use Rattle.cu_op.specs.declared.operation.Planned.{Planned}
 use Rattle.cu_op.specs.Operation.{reads_of, target_of, writes_of, Fits}
-use Rattle.cu_op.specs.Projection.{HasSmallRegions, instruction_count, projection}
+use Rattle.cu_op.specs.Projection.{HasSmallRegions, instruction_count, own_projection}
 use Rattle.cu_fuse.specs.Fused.{SettingView, is_small, joint, joint_op, stands_in}
 use Rattle.cu_fuse.specs.Once.{loaded_by, plain_map}
 use Rattle.cu_op.specs.Numbers.{number_in}
@@ -187,7 +187,7 @@ returns-in_ok-op-in-Map-op-clause-joint c =
     ∙ (λ i. loaded_by (sym once i) (plain_map (sym code i) (sym ins i) out)) in
     let is : c.in_ok-op-in-Map-op.op ≡ joint_op s mk rd c.args.a = c.in_ok-op-in-Map-op.ensures.map ∙ sym both in
     subst (λ (p : Planned). IfSome c.within_allowed.result (λ x. x ≡ p))
-    (λ i. record { op = is i; node = rd.node; projected = projection s.arrays s.reserved (is i) })
+    (λ i. record { op = is i; node = rd.node; projected = own_projection s.arrays s.reserved (is i) })
     c.within_allowed.ensures.planned
 
 pub returns-in_ok-op-in-Map-op-clause-small : goal.returns-in_ok-op-in-Map-op-clause-small
@@ -218,9 +218,9 @@ returns-in_ok-op-in-Map-op-clause-small c =
     let is : c.in_ok-op-in-Map-op.op ≡ joint_op s mk rd c.args.a = c.in_ok-op-in-Map-op.ensures.map ∙ sym both in
     let inputs : length (reads_of (joint_op s mk rd c.args.a)) ≤ 8 = subst (λ (o : Op). length (reads_of o) ≤ 8) (sym both) c.in_ok-op-in-Map-op.ensures.inputs in
     let steps : instruction_count (joint_op s mk rd c.args.a) ≤ 32 = subst (λ (o : Op). instruction_count o ≤ 32) (sym both) c.in_ok-op-in-Map-op.ensures.steps in
-    on_some_then c.within_allowed.result (projection s.arrays s.reserved c.in_ok-op-in-Map-op.op ≤ s.allowed)
+    on_some_then c.within_allowed.result (own_projection s.arrays s.reserved c.in_ok-op-in-Map-op.op ≤ s.allowed)
     (is_small s (joint s mk rd c.args.a) ≡ true)
-    (λ few. small_is s (joint s mk rd c.args.a) inputs steps (subst (λ (o : Op). projection s.arrays s.reserved o ≤ s.allowed) is few))
+    (λ few. small_is s (joint s mk rd c.args.a) inputs steps (subst (λ (o : Op). own_projection s.arrays s.reserved o ≤ s.allowed) is few))
     c.within_allowed.ensures.within
 
 pub returns-in_ok-op-in-Map-op-clause-none : goal.returns-in_ok-op-in-Map-op-clause-none
@@ -250,7 +250,7 @@ returns-in_ok-op-in-Map-op-clause-none c = λ none.
     ∙ (λ i. loaded_by (sym once i) (plain_map (sym code i) (sym ins i) out)) in
     let is : c.in_ok-op-in-Map-op.op ≡ joint_op s mk rd c.args.a = c.in_ok-op-in-Map-op.ensures.map ∙ sym both in
     much_memory s mk rd (joint s mk rd c.args.a)
-    (subst (λ (o : Op). s.allowed < projection s.arrays s.reserved o) is (c.within_allowed.ensures.over none))
+    (subst (λ (o : Op). s.allowed < own_projection s.arrays s.reserved o) is (c.within_allowed.ensures.over none))
 
 pub returns-in_err-op-in-Map-op-clause-none : goal.returns-in_err-op-in-Map-op-clause-none
 returns-in_err-op-in-Map-op-clause-none c = λ none.

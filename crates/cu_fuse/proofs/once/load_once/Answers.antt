@@ -2,7 +2,7 @@ use Rattle.std.proofs.Common.{◌≡◌, ◌<◌, ◌^◌, List, ℕ, All, refl,
 use Rattle.cu_op.specs.declared.layout.ArrayInfo.{ArrayInfo}
 use Rattle.cu_op.specs.declared.operation.Op.{Op}
 use Rattle.cu_op.specs.Operation.{reads_of}
-use Rattle.cu_op.specs.Projection.{projection}
+use Rattle.cu_op.specs.Projection.{own_projection}
 use Rattle.cu_fuse.specs.Fused.{SettingView}
 use Rattle.cu_fuse.specs.Once.{one_load, plain_map}
 use Rattle.cu_fuse.proofs.LoadedOnce.{not_larger}
@@ -14,8 +14,8 @@ returns-in_default-loaded_map c =
     absurd (not_larger c.as_slice.result.now c.as_slice-2.result.now c.in-Map.out c.as_slice.ensures.fits
     c.as_slice-2.ensures.fits (c.in_default-loaded_map.ensures.none refl))
 
-pub projection_of-planned-requires-clause-reads : goal.projection_of-planned-requires-clause-reads
-projection_of-planned-requires-clause-reads c =
+pub own_projection-planned-requires-clause-reads : goal.own_projection-planned-requires-clause-reads
+own_projection-planned-requires-clause-reads c =
     let s = c.args.setting.now in
     let op = c.args.planned.now.op in
     let arrays : c.deref.result.now ≡ s.arrays =
@@ -29,8 +29,8 @@ projection_of-planned-requires-clause-reads c =
     (reads_same s.arrays op (one_load op) (λ (a : ℕ). a < length s.arrays) (one_load_does s.arrays op)
     c.requires.over.reads))
 
-pub projection_of-planned-requires-clause-small : goal.projection_of-planned-requires-clause-small
-projection_of-planned-requires-clause-small c =
+pub own_projection-planned-requires-clause-small : goal.own_projection-planned-requires-clause-small
+own_projection-planned-requires-clause-small c =
     let s = c.args.setting.now in
     let op = c.args.planned.now.op in
     let arrays : c.deref.result.now ≡ s.arrays =
@@ -43,5 +43,5 @@ projection_of-planned-requires-clause-small c =
     let less = (one_load_does s.arrays op).needs s.reserved in
     let needs = c.requires.projected in
     let few = c.requires.room in
-    let own : projection s.arrays s.reserved (one_load op) < 2 ^ 64 = omega (arith, less, needs, few) in
-    subst (λ (n : ℕ). n < 2 ^ 64) (λ i. projection (sym arrays i) (sym reserved i) (sym is i)) own
+    let own : own_projection s.arrays s.reserved (one_load op) < 2 ^ 64 = omega (arith, less, needs, few) in
+    subst (λ (n : ℕ). n < 2 ^ 64) (λ i. own_projection (sym arrays i) (sym reserved i) (sym is i)) own

@@ -15,7 +15,7 @@ merge_maps-requires-clause-run c =
     let arrays = sym c.parts-arrays.ensures.arrays in
     let reserved = sym c.reserved-reserved.ensures in
     let ops = sym c.parts-arrays.ensures.ops in
-    transport (λ i. CanRun (arrays i) (reserved i) [] (ops i)) (sound_runs p c.out-out.ensures.sound [] p.ops refl)
+    transport (λ i. CanRun (arrays i) (reserved i) [] (ops i)) (sound_runs p c.out-out.ensures.sound c.requires.stored [] p.ops refl)
 
 pub close-requires-clause-sound : goal.close-requires-clause-sound
 close-requires-clause-sound c =

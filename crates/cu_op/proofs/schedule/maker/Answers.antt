@@ -3,8 +3,8 @@ use Rattle.cu_shape.specs.Index.{product}
 use Rattle.cu_op.specs.declared.layout.ArrayInfo.{ArrayInfo}
 use Rattle.cu_op.specs.Arrays.{grid_counts}
 use Rattle.cu_op.specs.Cells.{task_grid}
-use Rattle.cu_op.specs.Schedule.{op_of, task_at, WritesCell}
-use Rattle.cu_op.proofs.Makers.{made_ranks, made_box, made_few, made_writes}
+use Rattle.cu_op.specs.Schedule.{op_of, task_at, WritesCell, MakesChunk}
+use Rattle.cu_op.proofs.Makers.{made_ranks, made_box, made_few, made_writes, made_makes}
 use Rattle.cu_op.proofs.schedule.maker.Goals as goal
 
 pub box_of-region-requires-clause-ranks : goal.box_of-region-requires-clause-ranks
@@ -41,14 +41,25 @@ overflow_cast-result c =
     let below = c.place.ensures.below in
     omega (arith, few, count, below)
 
-pub returns-clause-writes : goal.returns-clause-writes
-returns-clause-writes c =
+is_maker : (c : goal.After-place) → c.place.result ≡ task_at c.args.plan.now.arrays (op_of c.args.plan.now c.in_ok-operation.operation) c.args.cell.now
+is_maker c =
+    c.place.ensures.place
+    ∙ rw (c.counts.ensures.counts, c.box_of-region.ensures, c.chunk.ensures.value, c.task_grid-regions.ensures.grid, c.chunk_region-first.ensures.lo, c.array-info.ensures.array) refl
+
+pub returns-clause-makes : goal.returns-clause-makes
+returns-clause-makes c =
     let s = c.task_grid-regions.ensures.sound in
     let p = c.args.plan.now in
     let d = c.args.cell.now in
     let k = c.in_ok-operation.operation in
     let made = ap (λ (i : ArrayInfo). i.maker) (sym c.array-info.ensures.array) ∙ c.in_ok-operation.was in
-    let same : c.place.result ≡ task_at p.arrays (op_of p k) d =
-    c.place.ensures.place
-    ∙ rw (c.counts.ensures.counts, c.box_of-region.ensures, c.chunk.ensures.value, c.task_grid-regions.ensures.grid, c.chunk_region-first.ensures.lo, c.array-info.ensures.array) refl in
-    subst (λ (t : ℕ). WritesCell p k t d.array d.coord) (sym same) (made_writes p s k d.array d.coord c.requires.0 c.requires.1 made)
+    subst (λ (t : ℕ). MakesChunk p k t d.array d.coord) (sym (is_maker c)) (made_makes p s k d.array d.coord c.requires.0 c.requires.1 made)
+
+pub returns-clause-writes : goal.returns-clause-writes
+returns-clause-writes c = λ stored.
+    let s = c.task_grid-regions.ensures.sound in
+    let p = c.args.plan.now in
+    let d = c.args.cell.now in
+    let k = c.in_ok-operation.operation in
+    let made = ap (λ (i : ArrayInfo). i.maker) (sym c.array-info.ensures.array) ∙ c.in_ok-operation.was in
+    subst (λ (t : ℕ). WritesCell p k t d.array d.coord) (sym (is_maker c)) (made_writes p s k d.array d.coord c.requires.0 c.requires.1 made stored)

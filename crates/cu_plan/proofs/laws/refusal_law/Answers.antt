@@ -1,7 +1,10 @@
-use Rattle.cu_need.specs.Counts.{over_limit}
+use Rattle.std.proofs.Common.{option_map}
+use Rattle.std.specs.Option.{option_or}
+use Rattle.cu_copy.specs.Copies.{max_mem}
+use Rattle.cu_need.specs.Counts.{over_limit, plan_counts}
 use Rattle.cu_need.specs.Need.{first_over}
 use Rattle.cu_plan.proofs.Refused.{none_refused, memory_refused, limit_refused, refused_node, refused_limit, refused_none, first_limit, limit_found, node_found}
-use Rattle.cu_plan.specs.Refusal.{planned_counts}
+use Rattle.cu_plan.specs.Refusal.{limit_fault, memory_fault, planned_counts}
 use Rattle.cu_plan.proofs.laws.refusal_law.Goals as goal
 
 pub returns-clause-over_memory : goal.returns-clause-over_memory
@@ -38,3 +41,8 @@ returns-clause-none c = λ options e infos.
           (none.0 found.0, few.0, few.1),
       λ both. none_refused options.allowed o l (none.1 both.0) (kept.1 (both.1, both.2)),
     )
+
+pub returns-clause-alike : goal.returns-clause-alike
+returns-clause-alike c = λ options other e infos allowed reserved several.
+    λ i. option_or (option_map (memory_fault (allowed i)) (first_over (allowed i) (reserved i) (several i) e infos))
+    (option_map limit_fault (over_limit (plan_counts (max_mem (allowed i) (reserved i)) (several i) e infos)))

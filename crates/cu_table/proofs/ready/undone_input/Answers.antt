@@ -4,7 +4,7 @@ use Rattle.cu_table.proofs.ready.undone_input.Goals as goal
 pub loop-cell-init : goal.loop-cell-init
 loop-cell-init c =
     inputs_first c.args.tasks.now c.args.states.now c.args.op c.args.task c.plan.result.now c.plan.ensures.plan c.into_iter-cell-iterator.result c.inputs-cell-items.result
-    c.into_iter-cell-iterator.ensures.into_iter_gives c.inputs-cell-items.ensures.exact c.inputs-cell-items.ensures.chunks
+    c.into_iter-cell-iterator.ensures.into_iter_gives c.inputs-cell-items.ensures.exact c.inputs-cell-items.ensures.chunks c.inputs-cell-items.ensures.stored
 
 pub loop-cell-preserved-in-None-undone_maker : goal.loop-cell-preserved-in-None-undone_maker
 loop-cell-preserved-in-None-undone_maker c =

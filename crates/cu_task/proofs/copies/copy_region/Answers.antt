@@ -1,10 +1,9 @@
-use Rattle.std.proofs.Common.{◌≡◌, ◌<◌, ◌≤◌, ◌*◌, ℕ, List, [], ◌∷◌, length, Some, refl, append-nil, sym, ap, ◌∙◌, subst, arith}
-use Rattle.std.specs.Prelude.{slice_index_or, OnOk, IfErr}
+use Rattle.std.proofs.Common.{◌≡◌, ◌<◌, ◌≤◌, ◌*◌, ℕ, List, [], ◌∷◌, length, Some, refl, sym, ap, ◌∙◌, subst, arith}
+use Rattle.std.specs.Prelude.{slice_index_or, OnOk}
 use Rattle.cu_num.specs.Dtype.{size_of}
 use Rattle.cu_num.specs.declared.types.Dtype.{Dtype}
 use Rattle.cu_shape.specs.Index.{product, differences}
 use Rattle.cu_grid.specs.Counts.{IsWithin}
-use Rattle.cu_store.specs.Held.{Contents}
 use Rattle.cu_store.specs.Steps.{NoChange, Steps}
 use Rattle.cu_op.specs.Arrays.{array_at, type_at, chunk_room}
 use Rattle.cu_op.specs.Cells.{task_lo, task_hi}
@@ -13,7 +12,7 @@ use Rattle.cu_op.specs.Projection.{scratch_room}
 use Rattle.cu_op.specs.Schedule.{op_of}
 use Rattle.cu_op.specs.Value.{rule, stored_inputs}
 use Rattle.cu_op.specs.Chunks.{walk}
-use Rattle.cu_op.specs.Walks.{walk_cells, input_walks}
+use Rattle.cu_op.specs.Walks.{input_walks}
 use Rattle.cu_op.specs.declared.operation.Op.{Op}
 use Rattle.cu_op.specs.declared.operation.Op.TheVariants.{Copy}
 use Rattle.cu_op.specs.declared.walks.Walk.{Walk}
@@ -21,14 +20,12 @@ use Rattle.cu_op.proofs.Operations.{Fit}
 use Rattle.cu_op.proofs.TaskCells.{fit_of}
 use Rattle.cu_region.specs.Calls.{Made}
 use Rattle.cu_region.specs.Reading.{ReadsRegion}
-use Rattle.cu_region.specs.Steady.{IsSteady}
 use Rattle.cu_region.specs.Writing.{AreElements, buffer_element}
-use Rattle.cu_task.specs.Inputs.{walk_room, IsWalkKey, IsTaskInputFault}
-use Rattle.cu_task.specs.Task.{read_calls}
-use Rattle.cu_task.proofs.InputReads.{on_ok_then, on_err_more}
+use Rattle.cu_task.specs.Inputs.{walk_room, IsWalkKey}
+use Rattle.cu_task.proofs.CopyTask.{copy_walk}
+use Rattle.cu_task.proofs.Inside.{own_fault, own_key}
+use Rattle.cu_task.proofs.InputReads.{on_ok_then, on_err_more, still_first}
 use Rattle.cu_task.proofs.TaskRegions.{copied, scratch_read}
-use Rattle.cu_task.proofs.TaskSteps.{read_fault}
-use Rattle.cu_task.specs.Asks.{MayReadWalks}
 use Rattle.cu_task.proofs.copies.copy_region.Goals as goal
 
 abbrev none : Walk
@@ -63,8 +60,9 @@ returns-clause-values g c held known =
     let operation = Copy copy.region copy.source copy.out in
     let fit = subst (Fit c.args.task.now.plan.arrays c.args.task.now.op) copy.is (fit_of c.args.task.now.plan c.input_walk-walk.ensures.sound c.args.task.now.op c.args.task.now.operation) in
     let same : c.input_walk-walk.result ≡ (walk copy.source (task_lo c.args.task.now.plan.arrays operation c.args.task.now.number) (task_hi c.args.task.now.plan.arrays operation c.args.task.now.number)) = c.input_walk-walk.ensures.walk ∙ ap (λ (o : Op). slice_index_or (input_walks c.args.task.now.plan.arrays o c.args.task.now.number) 0 none) copy.is in
-    let steady = subst (λ (o : Op). IsSteady (IsWalkKey c.args.task.now.plan.arrays (input_walks c.args.task.now.plan.arrays o c.args.task.now.number)) (Some held) (g.C.Chunks.shown c.args.access.now).late) copy.is known.1 in
-    let read = subst (λ (w : Walk). (held : Contents) → (g.C.Chunks.shown c.args.access.now).held ≡ Some held → IsSteady (IsWalkKey c.args.task.now.plan.arrays (w ∷ [])) (Some held) (g.C.Chunks.shown c.args.access.now).late → OnOk c.read_walk.result (ReadsRegion (array_at c.args.task.now.plan.arrays w.array) w.region.lo w.region.hi (Some held) c.read_walk.new.out)) same c.read_walk.ensures.read held known.0 steady in
+    let own = copy_walk c.args.task.now.plan c.args.task.now.op c.args.task.now.number c.input_walk-walk.result c.input_walk-walk.ensures.sound c.args.task.now.operation c.requires.copy c.input_walk-walk.ensures.walk in
+    let still = still_first (IsWalkKey c.args.task.now.plan.arrays c.input_walk-walk.result) held (g.C.Chunks.shown c.args.access.now) known.0 (λ key bytes here among. known.1 key bytes (own_key c.args.task.now.plan c.input_walk-walk.ensures.sound c.args.task.now.op c.args.task.now.number c.input_walk-walk.result own.listed own.as_is key here) among) in
+    let read = subst (λ (w : Walk). OnOk c.read_walk.result (ReadsRegion (array_at c.args.task.now.plan.arrays w.array) w.region.lo w.region.hi (Some held) c.read_walk.new.out)) same (c.read_walk.ensures.read held still) in
     on_ok_then c.read_walk.result (λ reads. subst (λ (o : Op). (idx : List ℕ) → IsWithin (task_lo c.args.task.now.plan.arrays o c.args.task.now.number) (task_hi c.args.task.now.plan.arrays o c.args.task.now.number) idx → rule o c.args.task.now.plan.arrays (stored_inputs c.args.task.now.plan.arrays held) (target_of o) idx ≡ buffer_element (type_at c.args.task.now.plan.arrays (target_of o)) (task_lo c.args.task.now.plan.arrays o c.args.task.now.number) (task_hi c.args.task.now.plan.arrays o c.args.task.now.number) c.read_walk.new.out idx) (sym copy.is)
     (λ idx w. reads idx w ∙ ap (λ (t : Dtype). buffer_element t (task_lo c.args.task.now.plan.arrays operation c.args.task.now.number) (task_hi c.args.task.now.plan.arrays operation c.args.task.now.number) c.read_walk.new.out idx) fit.2.types)) read
 
@@ -79,27 +77,18 @@ returns-clause-elements g c =
 
 pub returns-clause-step : goal.returns-clause-step
 returns-clause-step g c =
-    let copy = copied (op_of c.args.task.now.plan c.args.task.now.op) c.requires.copy in
-    let operation = Copy copy.region copy.source copy.out in
-    let same : c.input_walk-walk.result ≡ (walk copy.source (task_lo c.args.task.now.plan.arrays operation c.args.task.now.number) (task_hi c.args.task.now.plan.arrays operation c.args.task.now.number)) = c.input_walk-walk.ensures.walk ∙ ap (λ (o : Op). slice_index_or (input_walks c.args.task.now.plan.arrays o c.args.task.now.number) 0 none) copy.is in
-    let calls : read_calls c.args.task.now.plan.arrays (op_of c.args.task.now.plan c.args.task.now.op) c.args.task.now.number ≡ length (walk_cells c.args.task.now.plan.arrays c.input_walk-walk.result) = ap (λ (o : Op). read_calls c.args.task.now.plan.arrays o c.args.task.now.number) copy.is ∙ ap length (append-nil (walk_cells c.args.task.now.plan.arrays (walk copy.source (task_lo c.args.task.now.plan.arrays operation c.args.task.now.number) (task_hi c.args.task.now.plan.arrays operation c.args.task.now.number)))) ∙ ap (λ (w : Walk). length (walk_cells c.args.task.now.plan.arrays w)) (sym same) in
-    subst (λ (n : ℕ). Steps NoChange 0 n (g.C.Chunks.shown c.args.access.now) (g.C.Chunks.shown c.read_walk.new.access)) (sym calls) c.read_walk.ensures.step
+    let own = copy_walk c.args.task.now.plan c.args.task.now.op c.args.task.now.number c.input_walk-walk.result c.input_walk-walk.ensures.sound c.args.task.now.operation c.requires.copy c.input_walk-walk.ensures.walk in
+    subst (λ (n : ℕ). Steps NoChange 0 n (g.C.Chunks.shown c.args.access.now) (g.C.Chunks.shown c.read_walk.new.access)) (sym own.calls) c.read_walk.ensures.step
 
 pub returns-clause-all : goal.returns-clause-all
 returns-clause-all g c =
-    let copy = copied (op_of c.args.task.now.plan c.args.task.now.op) c.requires.copy in
-    let operation = Copy copy.region copy.source copy.out in
-    let same : c.input_walk-walk.result ≡ (walk copy.source (task_lo c.args.task.now.plan.arrays operation c.args.task.now.number) (task_hi c.args.task.now.plan.arrays operation c.args.task.now.number)) = c.input_walk-walk.ensures.walk ∙ ap (λ (o : Op). slice_index_or (input_walks c.args.task.now.plan.arrays o c.args.task.now.number) 0 none) copy.is in
-    let calls : read_calls c.args.task.now.plan.arrays (op_of c.args.task.now.plan c.args.task.now.op) c.args.task.now.number ≡ length (walk_cells c.args.task.now.plan.arrays c.input_walk-walk.result) = ap (λ (o : Op). read_calls c.args.task.now.plan.arrays o c.args.task.now.number) copy.is ∙ ap length (append-nil (walk_cells c.args.task.now.plan.arrays (walk copy.source (task_lo c.args.task.now.plan.arrays operation c.args.task.now.number) (task_hi c.args.task.now.plan.arrays operation c.args.task.now.number)))) ∙ ap (λ (w : Walk). length (walk_cells c.args.task.now.plan.arrays w)) (sym same) in
-    subst (λ (n : ℕ). OnOk c.read_walk.result (Made n (g.C.Chunks.shown c.args.access.now).calls (g.C.Chunks.shown c.read_walk.new.access).calls)) (sym calls) c.read_walk.ensures.all
+    let own = copy_walk c.args.task.now.plan c.args.task.now.op c.args.task.now.number c.input_walk-walk.result c.input_walk-walk.ensures.sound c.args.task.now.operation c.requires.copy c.input_walk-walk.ensures.walk in
+    subst (λ (n : ℕ). OnOk c.read_walk.result (Made n (g.C.Chunks.shown c.args.access.now).calls (g.C.Chunks.shown c.read_walk.new.access).calls)) (sym own.calls) c.read_walk.ensures.all
 
 pub returns-clause-cause : goal.returns-clause-cause
 returns-clause-cause g c =
-    let copy = copied (op_of c.args.task.now.plan c.args.task.now.op) c.requires.copy in
-    let operation = Copy copy.region copy.source copy.out in
-    let same : c.input_walk-walk.result ≡ (walk copy.source (task_lo c.args.task.now.plan.arrays operation c.args.task.now.number) (task_hi c.args.task.now.plan.arrays operation c.args.task.now.number)) = c.input_walk-walk.ensures.walk ∙ ap (λ (o : Op). slice_index_or (input_walks c.args.task.now.plan.arrays o c.args.task.now.number) 0 none) copy.is in
-    let cause = subst (λ (w : Walk). IfErr c.read_walk.result (IsTaskInputFault (g.C.Chunks.shown c.args.access.now) (g.C.Chunks.shown c.read_walk.new.access) c.args.task.now.plan.arrays (w ∷ []))) same c.read_walk.ensures.cause in
-    on_err_more c.read_walk.result (λ e fault. read_fault c.args.task.now.plan c.input_walk-walk.ensures.sound c.args.task.now.op c.args.task.now.number c.args.task.now.operation c.args.task.now.within (g.C.Chunks.shown c.args.access.now) (g.C.Chunks.shown c.read_walk.new.access) e (subst (λ (o : Op). IsTaskInputFault (g.C.Chunks.shown c.args.access.now) (g.C.Chunks.shown c.read_walk.new.access) c.args.task.now.plan.arrays (input_walks c.args.task.now.plan.arrays o c.args.task.now.number) e) (sym copy.is) fault)) cause
+    let own = copy_walk c.args.task.now.plan c.args.task.now.op c.args.task.now.number c.input_walk-walk.result c.input_walk-walk.ensures.sound c.args.task.now.operation c.requires.copy c.input_walk-walk.ensures.walk in
+    on_err_more c.read_walk.result (λ e fault. own_fault c.args.task.now.plan c.input_walk-walk.ensures.sound c.args.task.now.op c.args.task.now.number c.input_walk-walk.result own.listed own.as_is (g.C.Chunks.shown c.args.access.now) (g.C.Chunks.shown c.read_walk.new.access) e fault) c.read_walk.ensures.cause
 
 pub read_walk-requires-clause-belongs : goal.read_walk-requires-clause-belongs
 read_walk-requires-clause-belongs g c = c.requires.belongs
@@ -109,11 +98,8 @@ read_walk-requires-clause-walk g c = c.input_walk-walk.ensures.over
 
 pub read_walk-requires-clause-may : goal.read_walk-requires-clause-may
 read_walk-requires-clause-may g c =
-    let copy = copied (op_of c.args.task.now.plan c.args.task.now.op) c.requires.copy in
-    let operation = Copy copy.region copy.source copy.out in
-    let same : c.input_walk-walk.result ≡ (walk copy.source (task_lo c.args.task.now.plan.arrays operation c.args.task.now.number) (task_hi c.args.task.now.plan.arrays operation c.args.task.now.number)) = c.input_walk-walk.ensures.walk ∙ ap (λ (o : Op). slice_index_or (input_walks c.args.task.now.plan.arrays o c.args.task.now.number) 0 none) copy.is in
-    let may = subst (λ (o : Op). MayReadWalks c.args.task.now.plan.arrays (input_walks c.args.task.now.plan.arrays o c.args.task.now.number) (g.C.Chunks.may_get c.args.store.now c.args.access.now)) copy.is c.requires.may in
-    subst (λ (w : Walk). MayReadWalks c.args.task.now.plan.arrays (w ∷ []) (g.C.Chunks.may_get c.args.store.now c.args.access.now)) (sym same) may
+    let own = copy_walk c.args.task.now.plan c.args.task.now.op c.args.task.now.number c.input_walk-walk.result c.input_walk-walk.ensures.sound c.args.task.now.operation c.requires.copy c.input_walk-walk.ensures.walk in
+    λ key here. c.requires.may key (own_key c.args.task.now.plan c.input_walk-walk.ensures.sound c.args.task.now.op c.args.task.now.number c.input_walk-walk.result own.listed own.as_is key here)
 
 pub returns-clause-open : goal.returns-clause-open
 returns-clause-open g c = c.read_walk.ensures.open

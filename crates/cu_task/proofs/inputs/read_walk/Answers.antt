@@ -24,16 +24,17 @@ read_region_of-requires-clause-coordinates g c coord m =
     coordinates_small c.args.task.now.plan c.args.walk.now.array coord c.array.ensures.sound c.requires.walk.0 meets.0
 
 pub returns-clause-read : goal.returns-clause-read
-returns-clause-read g c held told steady =
+returns-clause-read g c held still =
     let ok = grid_ok c.args.task.now.plan c.args.walk.now.array c.array.ensures.sound c.requires.walk.0 in
     let K : List ℕ → Type 0 = IsChunkKey (array_at c.args.task.now.plan.arrays c.args.walk.now.array) c.args.walk.now.region.lo c.args.walk.now.region.hi in
-    let own : IsSteady K (Some held) (g.C.Chunks.shown c.args.access.now).late = λ key bytes here among. steady key bytes (walk_key c.args.task.now.plan.arrays c.args.walk.now key ok c.requires.walk here) among in
-    let start : IsSteady K (g.C.Chunks.shown c.args.access.now).held (g.C.Chunks.shown c.args.access.now).late = subst (λ (o : Option Contents). IsSteady K o (g.C.Chunks.shown c.args.access.now).late) (sym told) own in
+    let own : IsSteady K (Some still.now) (g.C.Chunks.shown c.args.access.now).late = λ key bytes here among. still.steady key bytes (walk_key c.args.task.now.plan.arrays c.args.walk.now key ok c.requires.walk here) among in
+    let start : IsSteady K (g.C.Chunks.shown c.args.access.now).held (g.C.Chunks.shown c.args.access.now).late = subst (λ (o : Option Contents). IsSteady K o (g.C.Chunks.shown c.args.access.now).late) (sym still.told) own in
     let reads = (rw c.array.ensures.array at c.read_region_of.ensures.read) start in
-    let same : HoldSame K (Some held) (g.C.Chunks.shown c.read_region_of.new.access).held = subst (λ (o : Option Contents). HoldSame K o (g.C.Chunks.shown c.read_region_of.new.access).held) told
+    let same : HoldSame K (Some still.now) (g.C.Chunks.shown c.read_region_of.new.access).held = subst (λ (o : Option Contents). HoldSame K o (g.C.Chunks.shown c.read_region_of.new.access).held) still.told
     ((rw c.array.ensures.array at c.read_region_of.ensures.same) start) in
     on_ok_then c.read_region_of.result
-    (λ read. reads_before (array_at c.args.task.now.plan.arrays c.args.walk.now.array) c.args.walk.now.region.lo c.args.walk.now.region.hi c.read_region_of.new.out held (g.C.Chunks.shown c.read_region_of.new.access).held ok c.requires.walk.1 same read)
+    (λ read. reads_before (array_at c.args.task.now.plan.arrays c.args.walk.now.array) c.args.walk.now.region.lo c.args.walk.now.region.hi c.read_region_of.new.out held (Some still.now) ok c.requires.walk.1 (λ key here. still.same key (walk_key c.args.task.now.plan.arrays c.args.walk.now key ok c.requires.walk here))
+    (reads_before (array_at c.args.task.now.plan.arrays c.args.walk.now.array) c.args.walk.now.region.lo c.args.walk.now.region.hi c.read_region_of.new.out still.now (g.C.Chunks.shown c.read_region_of.new.access).held ok c.requires.walk.1 same read))
     reads
 
 pub returns-clause-cause : goal.returns-clause-cause

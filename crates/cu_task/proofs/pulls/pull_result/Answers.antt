@@ -2,13 +2,12 @@ use Rattle.std.proofs.Common.{ℕ, ◌∙◌, sym, subst, arith, None, Some}
 use Rattle.std.specs.Prelude.{slice_index}
 use Rattle.cu_store.specs.Steps.{NoChange, Steps}
 use Rattle.cu_op.specs.Schedule.{op_of}
-use Rattle.cu_task.specs.Task.{read_calls}
+use Rattle.cu_task.specs.Calls.{chunk_calls, read_calls}
 use Rattle.cu_task.specs.ViewJobs.{view_task_of}
 use Rattle.cu_task.proofs.InputReads.{on_ok_then, on_err_more}
 use Rattle.cu_task.proofs.JobViews.{fitting, of_job}
 use Rattle.cu_task.proofs.PullTask.{source_key, has_values, has_elements, known_sources, view_fault, sure_all, made_from}
 use Rattle.cu_task.proofs.TaskRegions.{scratch_read}
-use Rattle.cu_task.proofs.TaskSteps.{read_fault}
 use Rattle.cu_task.proofs.pulls.pull_result.Goals as goal
 
 pub lay_numbers-requires-clause-output : goal.lay_numbers-requires-clause-output
@@ -29,7 +28,7 @@ returns-clause-values g c held known =
     let first = c.lay_numbers.ensures (Some held) in
     on_ok_then c.read_sources.result
     (λ has idx w. o.value _ idx ∙ has_values (view_task_of c.args.job.now) fit held c.read_sources.new.output has idx w)
-    (c.read_sources.ensures.pulled (Some held) (known_sources c.args.job.now.task.now.plan c.requires.job.sound (op_of c.args.job.now.task.now.plan c.args.job.now.task.now.op) c.args.job.now.task.now.number c.args.job.now.pull.now c.args.job.now.ins.now o held (g.C.Chunks.shown c.args.access.now) known.0 known.1) first)
+    (c.read_sources.ensures.pulled (Some held) (known_sources c.args.job.now.task.now.plan c.requires.job.sound c.args.job.now.task.now.op c.args.job.now.task.now.number c.args.job.now.task.now.operation c.args.job.now.pull.now c.args.job.now.ins.now o held (g.C.Chunks.shown c.args.access.now) known) first)
 
 pub returns-clause-elements : goal.returns-clause-elements
 returns-clause-elements g c =
@@ -42,25 +41,24 @@ returns-clause-elements g c =
 pub returns-clause-step : goal.returns-clause-step
 returns-clause-step g c =
     let o = of_job c.args.job.now c.requires.job in
-    subst (λ (n : ℕ). Steps NoChange 0 n (g.C.Chunks.shown c.args.access.now) (g.C.Chunks.shown c.read_sources.new.access)) (sym o.calls) c.read_sources.ensures.step
+    subst (λ (n : ℕ). Steps NoChange 0 n (g.C.Chunks.shown c.args.access.now) (g.C.Chunks.shown c.read_sources.new.access)) (sym (o.calls (chunk_calls c.args.job.now.task.now.plan c.args.job.now.task.now.op))) c.read_sources.ensures.step
 
 pub returns-clause-all : goal.returns-clause-all
 returns-clause-all g c sure =
     let o = of_job c.args.job.now c.requires.job in
     let old = g.C.Chunks.shown c.args.access.now in
     let new = g.C.Chunks.shown c.read_sources.new.access in
-    let step = subst (λ (n : ℕ). Steps NoChange 0 n old new) (sym o.calls) c.read_sources.ensures.step in
+    let step = subst (λ (n : ℕ). Steps NoChange 0 n old new) (sym (o.calls (chunk_calls c.args.job.now.task.now.plan c.args.job.now.task.now.op))) c.read_sources.ensures.step in
     on_ok_then c.read_sources.result
-    (λ rose. made_from (read_calls c.args.job.now.task.now.plan.arrays (op_of c.args.job.now.task.now.plan c.args.job.now.task.now.op) c.args.job.now.task.now.number) old new step (sure_all c.args.job.now.pull.now _ _ old.calls new.calls (o.sure sure) o.calls rose)) c.read_sources.ensures.all
+    (λ rose. made_from (read_calls c.args.job.now.task.now.plan c.args.job.now.task.now.op c.args.job.now.task.now.number) old new step (sure_all c.args.job.now.pull.now _ _ old.calls new.calls (o.sure sure) (o.calls (chunk_calls c.args.job.now.task.now.plan c.args.job.now.task.now.op)) rose)) c.read_sources.ensures.all
 
 pub returns-clause-cause : goal.returns-clause-cause
 returns-clause-cause g c =
     let o = of_job c.args.job.now c.requires.job in
     on_err_more c.read_sources.result
-    (λ e fault. read_fault c.args.job.now.task.now.plan c.requires.job.sound c.args.job.now.task.now.op c.args.job.now.task.now.number c.args.job.now.task.now.operation c.args.job.now.task.now.within (g.C.Chunks.shown c.args.access.now) (g.C.Chunks.shown c.read_sources.new.access) e
-    (view_fault c.args.job.now.task.now.plan c.requires.job.sound (op_of c.args.job.now.task.now.plan c.args.job.now.task.now.op) c.args.job.now.task.now.number c.args.job.now.pull.now c.args.job.now.ins.now o (g.C.Chunks.shown c.args.access.now) (g.C.Chunks.shown c.read_sources.new.access) e fault)) c.read_sources.ensures.cause
+    (λ e fault. view_fault c.args.job.now.task.now.plan c.requires.job.sound c.args.job.now.task.now.op c.args.job.now.task.now.number c.args.job.now.task.now.operation c.args.job.now.pull.now c.args.job.now.ins.now o (g.C.Chunks.shown c.args.access.now) (g.C.Chunks.shown c.read_sources.new.access) e fault) c.read_sources.ensures.cause
 
 pub read_sources-requires-clause-may : goal.read_sources-requires-clause-may
 read_sources-requires-clause-may g c =
     let o = of_job c.args.job.now c.requires.job in
-    λ source below key here. c.requires.may key (source_key c.args.job.now.task.now.plan c.requires.job.sound (op_of c.args.job.now.task.now.plan c.args.job.now.task.now.op) c.args.job.now.task.now.number c.args.job.now.pull.now c.args.job.now.ins.now o source key below here)
+    λ source below key here. c.requires.may key (source_key c.args.job.now.task.now.plan c.requires.job.sound c.args.job.now.task.now.op c.args.job.now.task.now.number c.args.job.now.task.now.operation c.args.job.now.pull.now c.args.job.now.ins.now o source key below here)

@@ -19,7 +19,7 @@ use Rattle.cu_task.proofs.TaskSteps.{carries, puts_cells, late_own, holds_chunk,
 use Rattle.cu_task.specs.Asks.{AllowsRegion, MayReadRegion}
 use Rattle.cu_task.proofs.Allowed.{got_cell, allows_within}
 use Rattle.cu_store.proofs.StaysOpen.{open_then}
-use Rattle.cu_task.specs.OfTask.{scratch_bytes}
+use Rattle.cu_task.proofs.Inside.{scratch_of_work}
 use Rattle.std.proofs.lemmas.Result.{err_from_is_err_and}
 use Rattle.cu_task.proofs.results.write_both.Goals as goal
 
@@ -73,14 +73,14 @@ returns-clause-stored g c env start calls over ready before =
     let same_places = carries c.args.task.now.plan c.operation.ensures.sound c.args.task.now.op c.args.task.now.number c.args.task.now.operation c.args.task.now.within (target_of (op_of c.args.task.now.plan c.args.task.now.op)) (target_written (op_of c.args.task.now.plan c.args.task.now.op)) start c.args.room.now.output.now over.output in
     let first : Steps (TaskChange c.args.task.now.plan c.args.task.now.op c.args.task.now.number start) 0 (length (walk_cells c.args.task.now.plan.arrays (walk c.args.array (task_lo c.args.task.now.plan.arrays (op_of c.args.task.now.plan c.args.task.now.op) c.args.task.now.number) (task_hi c.args.task.now.plan.arrays (op_of c.args.task.now.plan c.args.task.now.op) c.args.task.now.number)))) (g.C.Chunks.shown c.args.access.now) (g.C.Chunks.shown c.write_array.new.access) = steps_wider (puts_cells c.args.task.now.plan c.operation.ensures.sound c.args.task.now.op c.args.task.now.number c.args.task.now.operation c.args.task.now.within c.args.array (subst (λ (xs : List ℕ). Contains xs c.args.array) (sym (both_written (op_of c.args.task.now.plan c.args.task.now.op) c.args.array c.requires.stored)) (0, omega arith, refl)) start c.args.room.now.values.now same_values) (omega arith) (omega arith) c.write_array.ensures.step in
     let second : Steps (TaskChange c.args.task.now.plan c.args.task.now.op c.args.task.now.number start) 0 (length (walk_cells c.args.task.now.plan.arrays (walk (target_of (op_of c.args.task.now.plan c.args.task.now.op)) (task_lo c.args.task.now.plan.arrays (op_of c.args.task.now.plan c.args.task.now.op) c.args.task.now.number) (task_hi c.args.task.now.plan.arrays (op_of c.args.task.now.plan c.args.task.now.op) c.args.task.now.number)))) (g.C.Chunks.shown c.write_array.new.access) (g.C.Chunks.shown c.write_array-2.new.access) = steps_wider (puts_cells c.args.task.now.plan c.operation.ensures.sound c.args.task.now.op c.args.task.now.number c.args.task.now.operation c.args.task.now.within (target_of (op_of c.args.task.now.plan c.args.task.now.op)) (target_written (op_of c.args.task.now.plan c.args.task.now.op)) start c.args.room.now.output.now same_places) (omega arith) (omega arith) (subst (λ (a : ℕ). Steps (RegionPut (array_at c.args.task.now.plan.arrays a) (task_lo c.args.task.now.plan.arrays (op_of c.args.task.now.plan c.args.task.now.op) c.args.task.now.number) (task_hi c.args.task.now.plan.arrays (op_of c.args.task.now.plan c.args.task.now.op) c.args.task.now.number) c.args.room.now.output.now) 0 (length (walk_cells c.args.task.now.plan.arrays (walk a (task_lo c.args.task.now.plan.arrays (op_of c.args.task.now.plan c.args.task.now.op) c.args.task.now.number) (task_hi c.args.task.now.plan.arrays (op_of c.args.task.now.plan c.args.task.now.op) c.args.task.now.number)))) (g.C.Chunks.shown c.write_array.new.access) (g.C.Chunks.shown c.write_array-2.new.access)) target c.write_array-2.ensures.step) in
-    let values = c.in_ok-write_array.ensures.stored (late_own c.args.task.now.plan c.operation.ensures.sound c.args.task.now.op c.args.task.now.number c.args.task.now.operation c.args.task.now.within c.args.array (subst (λ (xs : List ℕ). Contains xs c.args.array) (sym (both_written (op_of c.args.task.now.plan c.args.task.now.op) c.args.array c.requires.stored)) (0, omega arith, refl)) env start (g.C.Chunks.shown c.args.access.now) 0 calls c.args.room.now.values.now same_values ready before) in
+    let values = c.in_ok-write_array.ensures.stored (late_own c.args.task.now.plan c.operation.ensures.sound c.args.task.now.op c.args.task.now.number c.args.task.now.operation c.args.task.now.within c.args.array (subst (λ (xs : List ℕ). Contains xs c.args.array) (sym (both_written (op_of c.args.task.now.plan c.args.task.now.op) c.args.array c.requires.stored)) (0, omega arith, refl)) c.requires.own env start (g.C.Chunks.shown c.args.access.now) 0 calls c.args.room.now.values.now same_values ready before) in
     let between : Steps (TaskChange c.args.task.now.plan c.args.task.now.op c.args.task.now.number start) 0 (calls + (length (walk_cells c.args.task.now.plan.arrays (walk c.args.array (task_lo c.args.task.now.plan.arrays (op_of c.args.task.now.plan c.args.task.now.op) c.args.task.now.number) (task_hi c.args.task.now.plan.arrays (op_of c.args.task.now.plan c.args.task.now.op) c.args.task.now.number))))) start (g.C.Chunks.shown c.write_array.new.access) = steps_then before first in
     let stored = subst (λ (a : ℕ). LateIsOwn (array_at c.args.task.now.plan.arrays a) (task_lo c.args.task.now.plan.arrays (op_of c.args.task.now.plan c.args.task.now.op) c.args.task.now.number) (task_hi c.args.task.now.plan.arrays (op_of c.args.task.now.plan c.args.task.now.op) c.args.task.now.number) c.args.room.now.output.now (g.C.Chunks.shown c.write_array.new.access).late → OnOk c.write_array-2.result (StoresRegion (array_at c.args.task.now.plan.arrays a) (task_lo c.args.task.now.plan.arrays (op_of c.args.task.now.plan c.args.task.now.op) c.args.task.now.number) (task_hi c.args.task.now.plan.arrays (op_of c.args.task.now.plan c.args.task.now.op) c.args.task.now.number) c.args.room.now.output.now (g.C.Chunks.shown c.write_array-2.new.access).held)) target c.write_array-2.ensures.stored in
     on_ok_then c.write_array-2.result (λ places cell there. elim (either_array c.args.task.now.plan c.operation.ensures.sound c.args.task.now.op c.args.task.now.number c.args.task.now.operation c.args.task.now.within c.args.array (target_of (op_of c.args.task.now.plan c.args.task.now.op)) (both_written (op_of c.args.task.now.plan c.args.task.now.op) c.args.array c.requires.stored) cell there) [
       | inl here ↦ let (bytes, value, held) = holds_chunk c.args.task.now.plan c.operation.ensures.sound c.args.task.now.op c.args.task.now.number c.args.task.now.operation c.args.task.now.within c.args.array (subst (λ (xs : List ℕ). Contains xs c.args.array) (sym (both_written (op_of c.args.task.now.plan c.args.task.now.op) c.args.array c.requires.stored)) (0, omega arith, refl)) env start (g.C.Chunks.shown c.write_array.new.access) c.args.room.now.values.now same_values ready values cell here there in
-          (bytes, value, still_holds c.args.task.now.plan c.operation.ensures.sound c.args.task.now.op c.args.task.now.number c.args.task.now.operation c.args.task.now.within env start (g.C.Chunks.shown c.write_array.new.access) (g.C.Chunks.shown c.write_array-2.new.access) 0 (calls + (length (walk_cells c.args.task.now.plan.arrays (walk c.args.array (task_lo c.args.task.now.plan.arrays (op_of c.args.task.now.plan c.args.task.now.op) c.args.task.now.number) (task_hi c.args.task.now.plan.arrays (op_of c.args.task.now.plan c.args.task.now.op) c.args.task.now.number))))) (length (walk_cells c.args.task.now.plan.arrays (walk (target_of (op_of c.args.task.now.plan c.args.task.now.op)) (task_lo c.args.task.now.plan.arrays (op_of c.args.task.now.plan c.args.task.now.op) c.args.task.now.number) (task_hi c.args.task.now.plan.arrays (op_of c.args.task.now.plan c.args.task.now.op) c.args.task.now.number)))) cell bytes ready between second there value held)
+          (bytes, value, still_holds c.args.task.now.plan c.operation.ensures.sound c.args.task.now.op c.args.task.now.number c.args.task.now.operation c.args.task.now.within c.requires.own env start (g.C.Chunks.shown c.write_array.new.access) (g.C.Chunks.shown c.write_array-2.new.access) 0 (calls + (length (walk_cells c.args.task.now.plan.arrays (walk c.args.array (task_lo c.args.task.now.plan.arrays (op_of c.args.task.now.plan c.args.task.now.op) c.args.task.now.number) (task_hi c.args.task.now.plan.arrays (op_of c.args.task.now.plan c.args.task.now.op) c.args.task.now.number))))) (length (walk_cells c.args.task.now.plan.arrays (walk (target_of (op_of c.args.task.now.plan c.args.task.now.op)) (task_lo c.args.task.now.plan.arrays (op_of c.args.task.now.plan c.args.task.now.op) c.args.task.now.number) (task_hi c.args.task.now.plan.arrays (op_of c.args.task.now.plan c.args.task.now.op) c.args.task.now.number)))) cell bytes ready between second there value held)
       | inr here ↦ holds_chunk c.args.task.now.plan c.operation.ensures.sound c.args.task.now.op c.args.task.now.number c.args.task.now.operation c.args.task.now.within (target_of (op_of c.args.task.now.plan c.args.task.now.op)) (target_written (op_of c.args.task.now.plan c.args.task.now.op)) env start (g.C.Chunks.shown c.write_array-2.new.access) c.args.room.now.output.now same_places ready places cell here there
-    ]) (stored (late_own c.args.task.now.plan c.operation.ensures.sound c.args.task.now.op c.args.task.now.number c.args.task.now.operation c.args.task.now.within (target_of (op_of c.args.task.now.plan c.args.task.now.op)) (target_written (op_of c.args.task.now.plan c.args.task.now.op)) env start (g.C.Chunks.shown c.write_array.new.access) 0 (calls + (length (walk_cells c.args.task.now.plan.arrays (walk c.args.array (task_lo c.args.task.now.plan.arrays (op_of c.args.task.now.plan c.args.task.now.op) c.args.task.now.number) (task_hi c.args.task.now.plan.arrays (op_of c.args.task.now.plan c.args.task.now.op) c.args.task.now.number))))) c.args.room.now.output.now same_places ready between))
+    ]) (stored (late_own c.args.task.now.plan c.operation.ensures.sound c.args.task.now.op c.args.task.now.number c.args.task.now.operation c.args.task.now.within (target_of (op_of c.args.task.now.plan c.args.task.now.op)) (target_written (op_of c.args.task.now.plan c.args.task.now.op)) c.requires.own env start (g.C.Chunks.shown c.write_array.new.access) 0 (calls + (length (walk_cells c.args.task.now.plan.arrays (walk c.args.array (task_lo c.args.task.now.plan.arrays (op_of c.args.task.now.plan c.args.task.now.op) c.args.task.now.number) (task_hi c.args.task.now.plan.arrays (op_of c.args.task.now.plan c.args.task.now.op) c.args.task.now.number))))) c.args.room.now.output.now same_places ready between))
 
 pub returns-clause-all : goal.returns-clause-all
 returns-clause-all g c =
@@ -126,13 +126,20 @@ pub write_array-requires-clause-belongs : goal.write_array-requires-clause-belon
 write_array-requires-clause-belongs g c = c.requires.belongs
 
 pub write_array-requires-clause-scratch : goal.write_array-requires-clause-scratch
-write_array-requires-clause-scratch g c = c.requires.room.scratch
+write_array-requires-clause-scratch g c =
+    let own = scratch_of_work c.args.task.now.plan c.args.task.now.op in
+    let most = c.requires.room.scratch in
+    omega (arith, own, most)
 
 pub write_array-requires-2-clause-belongs : goal.write_array-requires-2-clause-belongs
 write_array-requires-2-clause-belongs g c = c.write_array.ensures.open.belongs
 
 pub write_array-requires-2-clause-scratch : goal.write_array-requires-2-clause-scratch
-write_array-requires-2-clause-scratch g c = subst (λ (n : ℕ). scratch_bytes c.args.task.now ≤ n) (sym c.write_array.auto.scratch) c.requires.room.scratch
+write_array-requires-2-clause-scratch g c =
+    let own = scratch_of_work c.args.task.now.plan c.args.task.now.op in
+    let most = c.requires.room.scratch in
+    let long = c.write_array.auto.scratch in
+    omega (arith, own, most, long)
 
 pub returns-in_err-write_array-clause-got : goal.returns-in_err-write_array-clause-got
 returns-in_err-write_array-clause-got g c = let p = err_from_is_err_and c.from_residual.result c.from_residual.ensures.1 in rw p.1 tt

@@ -30,7 +30,7 @@ returns-clause-stored g c env start calls over ready before =
     let target : c.target-array.result ≡ (target_of (op_of c.args.task.now.plan c.args.task.now.op)) = c.target-array.ensures ∙ ap target_of c.operation.ensures.operation in
     let same = carries c.args.task.now.plan c.operation.ensures.sound c.args.task.now.op c.args.task.now.number c.args.task.now.operation c.args.task.now.within (target_of (op_of c.args.task.now.plan c.args.task.now.op)) (target_written (op_of c.args.task.now.plan c.args.task.now.op)) start c.args.output.now over in
     let stored = subst (λ (a : ℕ). LateIsOwn (array_at c.args.task.now.plan.arrays a) (task_lo c.args.task.now.plan.arrays (op_of c.args.task.now.plan c.args.task.now.op) c.args.task.now.number) (task_hi c.args.task.now.plan.arrays (op_of c.args.task.now.plan c.args.task.now.op) c.args.task.now.number) c.args.output.now (g.C.Chunks.shown c.args.access.now).late → OnOk c.write_array.result (StoresRegion (array_at c.args.task.now.plan.arrays a) (task_lo c.args.task.now.plan.arrays (op_of c.args.task.now.plan c.args.task.now.op) c.args.task.now.number) (task_hi c.args.task.now.plan.arrays (op_of c.args.task.now.plan c.args.task.now.op) c.args.task.now.number) c.args.output.now (g.C.Chunks.shown c.write_array.new.access).held)) target c.write_array.ensures.stored in
-    on_ok_then c.write_array.result (λ stores cell there. holds_chunk c.args.task.now.plan c.operation.ensures.sound c.args.task.now.op c.args.task.now.number c.args.task.now.operation c.args.task.now.within (target_of (op_of c.args.task.now.plan c.args.task.now.op)) (target_written (op_of c.args.task.now.plan c.args.task.now.op)) env start (g.C.Chunks.shown c.write_array.new.access) c.args.output.now same ready stores cell (only_array c.args.task.now.plan c.operation.ensures.sound c.args.task.now.op c.args.task.now.number c.args.task.now.operation c.args.task.now.within (target_of (op_of c.args.task.now.plan c.args.task.now.op)) c.requires.only cell there) there) (stored (late_own c.args.task.now.plan c.operation.ensures.sound c.args.task.now.op c.args.task.now.number c.args.task.now.operation c.args.task.now.within (target_of (op_of c.args.task.now.plan c.args.task.now.op)) (target_written (op_of c.args.task.now.plan c.args.task.now.op)) env start (g.C.Chunks.shown c.args.access.now) 0 calls c.args.output.now same ready before))
+    on_ok_then c.write_array.result (λ stores cell there. holds_chunk c.args.task.now.plan c.operation.ensures.sound c.args.task.now.op c.args.task.now.number c.args.task.now.operation c.args.task.now.within (target_of (op_of c.args.task.now.plan c.args.task.now.op)) (target_written (op_of c.args.task.now.plan c.args.task.now.op)) env start (g.C.Chunks.shown c.write_array.new.access) c.args.output.now same ready stores cell (only_array c.args.task.now.plan c.operation.ensures.sound c.args.task.now.op c.args.task.now.number c.args.task.now.operation c.args.task.now.within (target_of (op_of c.args.task.now.plan c.args.task.now.op)) c.requires.only cell there) there) (stored (late_own c.args.task.now.plan c.operation.ensures.sound c.args.task.now.op c.args.task.now.number c.args.task.now.operation c.args.task.now.within (target_of (op_of c.args.task.now.plan c.args.task.now.op)) (target_written (op_of c.args.task.now.plan c.args.task.now.op)) c.requires.own env start (g.C.Chunks.shown c.args.access.now) 0 calls c.args.output.now same ready before))
 
 pub returns-clause-all : goal.returns-clause-all
 returns-clause-all g c =

@@ -6,17 +6,21 @@ use Rattle.cu_store.proofs.Steps.{steps_then, steps_wider, steps_none}
 use Rattle.cu_op.specs.Schedule.{op_of}
 use Rattle.cu_op.specs.TaskView.{TaskView}
 use Rattle.cu_op.specs.Walks.{written_chunks}
-use Rattle.cu_task.specs.OfTask.{AreSteady, held_inputs}
-use Rattle.cu_task.specs.Task.{TaskChange, read_calls}
+use Rattle.cu_task.specs.OfTask.{held_inputs, HoldsFor}
+use Rattle.cu_task.specs.Calls.{read_calls}
+use Rattle.cu_task.specs.Task.{IsTaskKey, TaskChange}
 use Rattle.cu_task.specs.TaskRoom.{HasMadeAll, IsAllMadeOver}
 use Rattle.cu_task.specs.declared.room.TaskRoom.{TaskRoom}
-use Rattle.cu_task.proofs.InputReads.{on_err_more, on_ok_then, all_made}
+use Rattle.cu_task.proofs.InputReads.{on_err_more, on_ok_then, all_made, still_first}
 use Rattle.cu_task.proofs.TaskSteps.{write_fault}
 use Rattle.cu_store.proofs.StaysOpen.{open_then}
 use Rattle.cu_task.proofs.run.run_plan_task.Goals as goal
 
-made_over : {t : TaskView} {shown : Shown} {room : TaskRoom} → ((held : Contents) → AreSteady t shown held → HasMadeAll t (held_inputs t held) room) → IsAllMadeOver t shown room
-made_over made = record { output = λ held known. (made held known).output; values = λ array is held known. (made held known).values array is }
+made_over : (t : TaskView) (shown : Shown) (room : TaskRoom) → ((held : Contents) → HoldsFor t held shown → HasMadeAll t (held_inputs t held) room) → IsAllMadeOver t shown room
+made_over t shown room made = record {
+  output = λ held known. (made held (still_first (IsTaskKey t.plan t.op t.number) held shown known.0 known.1)).output;
+  values = λ array is held known. (made held (still_first (IsTaskKey t.plan t.op t.number) held shown known.0 known.1)).values array is;
+}
 
 pub returns-in_err-make_result-clause-step : goal.returns-in_err-make_result-clause-step
 returns-in_err-make_result-clause-step g c =
@@ -29,24 +33,24 @@ returns-in_err-make_result-clause-cause g c =
 
 pub returns-clause-stored : goal.returns-clause-stored
 returns-clause-stored g c env ready =
-    let first : Steps (TaskChange c.args.task.now.plan c.args.task.now.op c.args.task.now.number (g.C.Chunks.shown c.args.access.now)) 0 (read_calls c.args.task.now.plan.arrays (op_of c.args.task.now.plan c.args.task.now.op) c.args.task.now.number) (g.C.Chunks.shown c.args.access.now) (g.C.Chunks.shown c.make_result.new.access) = steps_none c.make_result.ensures.step in
-    c.write_results.ensures.stored env (g.C.Chunks.shown c.args.access.now) (read_calls c.args.task.now.plan.arrays (op_of c.args.task.now.plan c.args.task.now.op) c.args.task.now.number) (made_over c.in_ok-make_result.ensures.made) ready first
+    let first : Steps (TaskChange c.args.task.now.plan c.args.task.now.op c.args.task.now.number (g.C.Chunks.shown c.args.access.now)) 0 (read_calls c.args.task.now.plan c.args.task.now.op c.args.task.now.number) (g.C.Chunks.shown c.args.access.now) (g.C.Chunks.shown c.make_result.new.access) = steps_none c.make_result.ensures.step in
+    c.write_results.ensures.stored env (g.C.Chunks.shown c.args.access.now) (read_calls c.args.task.now.plan c.args.task.now.op c.args.task.now.number) (made_over c.args.task.now (g.C.Chunks.shown c.args.access.now) _ c.in_ok-make_result.ensures.made) ready first
 
 pub returns-clause-step : goal.returns-clause-step
 returns-clause-step g c =
-    let first : Steps (TaskChange c.args.task.now.plan c.args.task.now.op c.args.task.now.number (g.C.Chunks.shown c.args.access.now)) 0 (read_calls c.args.task.now.plan.arrays (op_of c.args.task.now.plan c.args.task.now.op) c.args.task.now.number) (g.C.Chunks.shown c.args.access.now) (g.C.Chunks.shown c.make_result.new.access) = steps_none c.make_result.ensures.step in
-    steps_then first (c.write_results.ensures.step (g.C.Chunks.shown c.args.access.now) (made_over c.in_ok-make_result.ensures.made))
+    let first : Steps (TaskChange c.args.task.now.plan c.args.task.now.op c.args.task.now.number (g.C.Chunks.shown c.args.access.now)) 0 (read_calls c.args.task.now.plan c.args.task.now.op c.args.task.now.number) (g.C.Chunks.shown c.args.access.now) (g.C.Chunks.shown c.make_result.new.access) = steps_none c.make_result.ensures.step in
+    steps_then first (c.write_results.ensures.step (g.C.Chunks.shown c.args.access.now) (made_over c.args.task.now (g.C.Chunks.shown c.args.access.now) _ c.in_ok-make_result.ensures.made))
 
 pub returns-clause-all : goal.returns-clause-all
 returns-clause-all g c sure =
-    on_ok_then c.write_results.result (λ second. all_made (g.C.Chunks.shown c.args.access.now).calls (g.C.Chunks.shown c.make_result.new.access).calls (g.C.Chunks.shown c.write_results.new.access).calls (read_calls c.args.task.now.plan.arrays (op_of c.args.task.now.plan c.args.task.now.op) c.args.task.now.number) (length (written_chunks c.args.task.now.plan.arrays (op_of c.args.task.now.plan c.args.task.now.op) c.args.task.now.number)) (c.in_ok-make_result.ensures.all sure) second) c.write_results.ensures.all
+    on_ok_then c.write_results.result (λ second. all_made (g.C.Chunks.shown c.args.access.now).calls (g.C.Chunks.shown c.make_result.new.access).calls (g.C.Chunks.shown c.write_results.new.access).calls (read_calls c.args.task.now.plan c.args.task.now.op c.args.task.now.number) (length (written_chunks c.args.task.now.plan.arrays (op_of c.args.task.now.plan c.args.task.now.op) c.args.task.now.number)) (c.in_ok-make_result.ensures.all sure) second) c.write_results.ensures.all
 
 pub returns-clause-cause : goal.returns-clause-cause
 returns-clause-cause g c =
     on_err_more c.write_results.result (λ e h. write_fault c.args.task.now.plan c.split-room.ensures.sound c.args.task.now.op c.args.task.now.number c.args.task.now.operation c.args.task.now.within (g.C.Chunks.shown c.args.access.now) (g.C.Chunks.shown c.make_result.new.access) (g.C.Chunks.shown c.write_results.new.access) e c.make_result.ensures.step.count h) c.write_results.ensures.cause
 
 pub write_results-requires-clause-puts : goal.write_results-requires-clause-puts
-write_results-requires-clause-puts g c = record { start = g.C.Chunks.shown c.args.access.now; made = made_over c.in_ok-make_result.ensures.made; changes = c.requires.puts }
+write_results-requires-clause-puts g c = record { start = g.C.Chunks.shown c.args.access.now; made = made_over c.args.task.now (g.C.Chunks.shown c.args.access.now) _ c.in_ok-make_result.ensures.made; changes = c.requires.puts }
 
 pub make_result-requires-clause-belongs : goal.make_result-requires-clause-belongs
 make_result-requires-clause-belongs g c = c.requires.belongs

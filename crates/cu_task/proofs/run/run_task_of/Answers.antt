@@ -10,6 +10,9 @@ run_plan_task-requires-clause-may g c = rw (c.make.ensures.plan, c.make.ensures.
 pub run_plan_task-requires-clause-puts : goal.run_plan_task-requires-clause-puts
 run_plan_task-requires-clause-puts g c = rw (c.make.ensures.plan, c.make.ensures.operation, c.make.ensures.number) c.requires.puts
 
+pub run_plan_task-requires-clause-own : goal.run_plan_task-requires-clause-own
+run_plan_task-requires-clause-own g c = rw (c.make.ensures.plan, c.make.ensures.operation, c.make.ensures.number) c.requires.task
+
 pub run_plan_task-requires-clause-words : goal.run_plan_task-requires-clause-words
 run_plan_task-requires-clause-words g c = rw (c.make.ensures.plan, c.make.ensures.operation) c.requires.words
 

@@ -8,7 +8,7 @@ use Rattle.cu_work.specs.Shared.{IsOpen, opened_table}
 use Rattle.cu_work.specs.declared.options.RunOptions.{RunOptions}
 use Rattle.cu_work.specs.declared.run.Texts.{Texts}
 use Rattle.cu_top.proofs.DriveCalls.{RunMakes, any_ok, drive_all, drive_starts, drive_stopped}
-use Rattle.cu_top.proofs.DriveLemmas.{RunTold, all_told, same_run, texts_held}
+use Rattle.cu_top.proofs.DriveLemmas.{RunTold, all_told, of_ops, same_run, texts_held}
 use Rattle.cu_top.specs.Driven.{AreHeld, WasDriven, drive_case, run_options}
 use Rattle.cu_top.proofs.drive.drive_plan.Goals as goal
 
@@ -47,6 +47,11 @@ run_plan-ended-requires-clause-held g c κs within =
     let same = same_run options job c.args.ready.now.plan texts c.requires.ready.plan_is c.text_keys-keys.ensures.record (rw c.deref.ensures.value c.requires.ready.record_is) c.text_keys-keys.ensures.metadata
     (rw c.deref-2.ensures.value c.requires.ready.metadata_is) in
     texts_held c.args.held c.args.ready.now.plan texts (g.D.Depot.shown c.args.depot.now).held (subst (λ (r : PlanRun). AreHeld c.args.held r (g.D.Depot.shown c.args.depot.now).held) (sym same) c.requires.held)
+
+pub drive_answer-requires : goal.drive_answer-requires
+drive_answer-requires g c =
+    of_ops c.broken_law.ensures.task c.args.ready.now.plan c.args.memory.table (g.D.Depot.shown c.args.depot.now) (g.D.Depot.shown c.run_plan-ended.new.depot) c.run_plan-ended.result
+    (ap (λ (t : TableView). t.settings.plan) c.requires.memory.table ∙ sym c.requires.ready.plan_is) c.run_plan-ended.ensures.driven
 
 pub returns-clause-driven : goal.returns-clause-driven
 returns-clause-driven g c =

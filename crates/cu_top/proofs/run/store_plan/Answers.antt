@@ -2,6 +2,7 @@ use Rattle.std.proofs.Common.{◌≡◌, ◌∙◌, List, Bool, None, ap, subst,
 use Rattle.cu_command.specs.Seen.{stream}
 use Rattle.cu_command.specs.declared.status.Status.{Status}
 use Rattle.cu_op.specs.PlanView.{PlanView}
+use Rattle.cu_run_law.specs.Pieces.{text_at}
 use Rattle.cu_table.specs.Table.{TableView}
 use Rattle.cu_work.specs.World.{IsFound}
 use Rattle.cu_top.proofs.DriveLemmas.{PlanLaws, HistoryLaws, apart_run, apart_inputs}
@@ -9,6 +10,7 @@ use Rattle.cu_top.proofs.PlanLemmas.{meant}
 use Rattle.cu_top.proofs.RunLemmas.{run_ended, open_cleared, stopped_of}
 use Rattle.cu_top.specs.Driven.{WasDriven, drive_case}
 use Rattle.cu_top.specs.Prepare.{job_plan, out_metadata}
+use Rattle.cu_top.specs.Quiet.{run_of_job}
 use Rattle.cu_top.specs.Record.{record_text}
 use Rattle.cu_top.specs.Run.{scene, case, Ended, IsStop, job_run}
 use Rattle.cu_top.specs.declared.report.RunCounts.{RunCounts}
@@ -115,8 +117,9 @@ returns g c = record {
       let (result, driven, answer) = subst (λ (done : List Bool). WasDriven (drive_case options (job_run run job) Neither done lack (start, now)) c.drive_plan.result) none c.drive_plan.ensures.driven in
       subst (λ (r : Result RunCounts Status). Ended lack run job r) (sym answer) (run_ended run job laws start cleared lack histories c.count_law.ensures.fresh result driven);
   stopped =
+      let run = run_of_job c.args.options.now c.args.ready.now.job in
       let (result, driven, answer) = c.drive_plan.ensures.driven in
-      subst (λ (r : Result RunCounts Status). IfErr r IsStop) (sym answer) (stopped_of _ result);
+      subst (λ (r : Result RunCounts Status). IfErr r IsStop) (sym answer) (stopped_of (text_at run 0).0 run.plan result);
   calls = c.drive_plan.ensures.calls;
   starts = c.drive_plan.ensures.starts;
   stopped_calls = c.drive_plan.ensures.stopped_calls;

@@ -1,6 +1,6 @@
-use Rattle.std.proofs.Common.{◌≡◌, ◌≤◌, ℕ, List, length, ap, sym, ◌∙◌, subst, rules}
+use Rattle.std.proofs.Common.{◌≡◌, ◌≤◌, ℕ, All, List, length, ap, arith, sym, ◌∙◌, subst, rules}
 use Rattle.cu_op.specs.declared.layout.ArrayInfo.{ArrayInfo}
-use Rattle.cu_op.specs.Operation.{reads_of}
+use Rattle.cu_op.specs.Operation.{reads_of, writes_of, IsMadeBy}
 use Rattle.cu_op.specs.Kind.Pull.{shapes_at}
 use Rattle.cu_op.specs.Schedule.{op_of}
 use Rattle.cu_op.specs.declared.operation.Op.{Op}
@@ -22,3 +22,9 @@ touches_of-requires-clause-view c =
     let shape : c.shape-shape.result.now ≡ shape_at c.args.plan.now.arrays c.in-Pull.made = c.shape-shape.ensures.value ∙ ap (λ (a : ArrayInfo). a.layout.grid.shape) c.array.ensures.array in
     subst (IsView c.in-Pull.pull c.as_slice-in-Pull.result.now) (sym shape)
     (subst (λ (x : List (List ℕ)). IsView c.in-Pull.pull x (shape_at c.args.plan.now.arrays c.in-Pull.made)) (sym shapes) view)
+
+pub array-requires : goal.array-requires
+array-requires c =
+    let own = ap (λ (o : Planned). o.op) (sym c.operation.ensures.operation) ∙ c.in-Pull.is in
+    let writes = subst (λ (op : Op). All (IsMadeBy c.args.plan.now.arrays c.args.op) (writes_of op)) own (c.operation.ensures.sound.operations c.args.op c.requires.operation).writes in
+    (writes 0 0 (omega arith)).0

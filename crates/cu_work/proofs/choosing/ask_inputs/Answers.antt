@@ -5,7 +5,7 @@ use Rattle.cu_store.specs.Held.{IsHeldIn}
 use Rattle.cu_op.specs.Arrays.{maker_at}
 use Rattle.cu_op.specs.Schedule.{key_of}
 use Rattle.cu_work.specs.Asked.{asking_of}
-use Rattle.cu_work.proofs.AskedTasks.{inputs_all, inputs_more, went_false, went_true}
+use Rattle.cu_work.proofs.AskedTasks.{cell_listed, inputs_all, inputs_more, went_false, went_true}
 use Rattle.cu_work.proofs.choosing.ask_inputs.Goals as goal
 
 pub loop-cell-preserved : goal.loop-cell-preserved
@@ -31,3 +31,8 @@ returns-in-Ok-false-clause-asked g c = λ start own lacks a. (
 
 pub returns-in-Err-clause-asked : goal.returns-in-Err-clause-asked
 returns-in-Err-clause-asked g c = λ start own lacks a. c.in-Err.ensures.asked start own lacks (c.loop-cell.invariant.asked start own lacks a).0
+
+pub ask_cell-requires-clause-read : goal.ask_cell-requires-clause-read
+ask_cell-requires-clause-read g c =
+    cell_listed c.args.plan.now c.args.part.now (c.args.retries + 1) c.args.task (contains_text c.args.known.now) (contains_text c.loop-cell.known) (g.D.Depot.shown c.args.depot.now) (g.D.Depot.shown c.loop-cell.depot) c.loop-cell.cell-iterator c.loop-cell.invariant
+    c.in-Some.cell c.next.new.self c.in-Some.ensures.steps

@@ -4,7 +4,7 @@ use Rattle.cu_work.specs.Shared.{spec_of, chunks_of_first}
 use Rattle.cu_work.proofs.memory.make_specs.Goals as goal
 
 pub loop-array-preserved : goal.loop-array-preserved
-loop-array-preserved c = rw (c.in_ok-push_specs.ensures, add-one, map-append, c.loop-array.invariant)
+loop-array-preserved c = rw (c.in_ok-push_stored.ensures, add-one, map-append, c.loop-array.invariant)
 
 pub returns : goal.returns
 returns c =

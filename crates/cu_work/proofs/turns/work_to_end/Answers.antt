@@ -6,6 +6,7 @@ use Rattle.cu_table.specs.Numbers.{IsTask}
 use Rattle.cu_table.specs.Table.{start_event}
 use Rattle.cu_board.specs.Board.{IsResting, IsRunning, MayReport}
 use Rattle.cu_task.specs.Serving.{HasSeenInputs}
+use Rattle.cu_work.proofs.StoredChunks.{region}
 use Rattle.cu_work.proofs.Turning.{same_after, runs_after, task_after, inputs_after, writes_inputs, finished_after, idle_after, broken_after, halted_after, reported_after, later_same, later_then, later_any, later_again, own_rests, worker_after}
 use Rattle.cu_work.proofs.OwnCounts.{counted_turn, counted_still}
 use Rattle.cu_work.specs.Workers.{HasCounted}
@@ -28,7 +29,7 @@ try_in_rooms-ended-requires-clause-inputs g c κs within =
     subst (λ (p : PlanView). HasSeenInputs p r.op r.task k.seen) c.requires.plan
     (inputs_after made c.loop.worker.seat.view c.claim.new.seat.view r.op r.task r.copy k turn
     (writes_inputs made.settings.plan sound r.op r.task is
-    (λ cell among. (c.input_cells_law.ensures.cells made.settings.plan r.op r.task cell sound is.operation is.number).0 among))
+    (λ cell among. (c.input_cells_law.ensures.cells made.settings.plan r.op r.task cell sound is.operation (region made.settings.plan sound r.op r.task is)).0 among))
     (c.step_law.ensures.ready turn.before.settings turn.before.done turn.before.history turn.before.state turn.after.state
     (start_event turn.before.settings.plan c.loop.worker.seat.view.number r.op r.task) turn.found.legal turn.answer.0.step refl))
 

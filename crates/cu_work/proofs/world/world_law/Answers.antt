@@ -10,7 +10,7 @@ returns-clause-right c = λ g done held events w left found all.
     (all_good ranges g env (first_world done held) (first_good ranges g env done held left found) events w all).right
 
 pub returns-clause-complete : goal.returns-clause-complete
-returns-clause-complete c = λ g done held events w a idx left found all finished within inside.
+returns-clause-complete c = λ g done held events w a idx left found all finished within stored inside.
     let ranges = c.range_law.ensures.values in
     let env = stored_inputs g.plan.arrays held in
-    all_elements ranges g.plan env w (all_good ranges g env (first_world done held) (first_good ranges g env done held left found) events w all).right finished a idx within inside
+    all_elements ranges g.plan env w (all_good ranges g env (first_world done held) (first_good ranges g env done held left found) events w all).right finished a idx within stored inside

@@ -55,7 +55,7 @@ returns-clause-room c =
       inputs = omega (arith, fit, made, found, kept, front2, back3);
       values = omega (arith, fit, made, found, front, back2);
       output = omega (arith, fit, made, back);
-      words = c.requires.words;
+      words = (let count = c.requires.words in omega (arith, count));
     }
 
 pub returns-clause-together : goal.returns-clause-together

@@ -1,0 +1,75 @@
+-- The plan in which arrays are made where they are read, array by array (this project's own rule):
+-- what operations read is gone over in order.
+use Rattle.std.specs.Prelude.{ℕ, ◌+◌, ◌==◌, ◌&&◌, nat_le, not, Bool, false, List, [], ◌∷◌, ◌++◌, map, sum_by, Option, Some, None, if◌then◌else◌}
+use Rattle.cu_op.specs.Arrays.{grid_at, maker_at}
+use Rattle.cu_op.specs.Operation.{reads_of, writes_one_chunk}
+use Rattle.cu_op.specs.PlanView.{PlanView, op_of}
+use Rattle.cu_op.specs.Projection.{instruction_count, projection}
+use Rattle.cu_op.specs.Within.{ops_within, stored_reads}
+use Rattle.cu_op.specs.declared.layout.ArrayInfo.{ArrayInfo}
+use Rattle.cu_op.specs.declared.operation.Op.{Op}
+use Rattle.cu_op.specs.declared.operation.Op.TheVariants.{Map, Fold, PairFold, Scan, GroupFold}
+use Rattle.cu_op.specs.declared.operation.Planned.{Planned}
+use Rattle.cu_fuse.specs.Fused.{same_grid, stands_in}
+use Rattle.cu_fuse.specs.Inlining.{inlined_by, inlining, read_count}
+
+-- ---- the tests of the rule
+
+-- each task of an operation reads one chunk of the array: an input of a map with the grid of its
+-- result, or what is reduced, searched or summed a chunk at a time
+abbrev pub reads_by_chunk : List ArrayInfo → Op → ℕ → Bool
+reads_by_chunk arrays (Map kernel ins out) a = stands_in ins.items a && same_grid (grid_at arrays a) (grid_at arrays out)
+reads_by_chunk arrays (Fold kind axes source out) a = a == source
+reads_by_chunk arrays (PairFold least axis source values out) a = a == source
+reads_by_chunk arrays (Scan axis source carry out) a = a == source
+reads_by_chunk arrays (GroupFold kind axis groups source labels out) a = a == source
+reads_by_chunk arrays op a = false
+
+-- an operation makes the array, each of whose tasks writes one chunk of it and nothing else
+abbrev pub is_made_by_chunk : PlanView → Option ℕ → Bool
+is_made_by_chunk p None = false
+is_made_by_chunk p (Some m) = writes_one_chunk (op_of p m)
+
+abbrev pub may_be_inlined : PlanView → ℕ → ℕ → Bool
+may_be_inlined p k a =
+    is_made_by_chunk p (maker_at p.arrays a)
+    && (not (a == p.out) && ((read_count p.ops a == 1) && reads_by_chunk p.arrays (op_of p k) a))
+
+abbrev pub has_room : PlanView → ℕ → Bool
+has_room p k =
+    nat_le (sum_by instruction_count (ops_within p k)) 32
+    && (nat_le (sum_by (stored_reads p.arrays) (ops_within p k)) 8 && nat_le (projection p k) p.allowed)
+
+-- ---- array by array
+
+-- operation k reads array a
+pub record Reading : Type 0 where
+  pub reader : ℕ
+  pub array : ℕ
+
+abbrev pub reading : ℕ → ℕ → Reading
+reading k a = record { reader = k; array = a }
+
+-- all that these operations read, of which the first has number k, in order
+abbrev pub readings : ℕ → List Planned → List Reading
+readings k [] = []
+readings k (o ∷ os) = map (reading k) (reads_of o.op) ++ readings (k + 1) os
+
+-- an array is inlined that may be, and with which its reader has room, where these are inlined so far
+abbrev pub is_taken : PlanView → List ℕ → Reading → Bool
+is_taken p so_far r = may_be_inlined p r.reader r.array && has_room (inlining p (stands_in (r.array ∷ so_far))) r.reader
+
+abbrev pub with_next : (List ℕ → Reading → Bool) → List ℕ → Reading → List ℕ
+with_next test so_far r = if test so_far r then r.array ∷ so_far else so_far
+
+-- the arrays that are taken by such a test, one after another, where these are so far
+abbrev pub taken : (List ℕ → Reading → Bool) → List ℕ → List Reading → List ℕ
+taken test so_far [] = so_far
+taken test so_far (r ∷ rs) = taken test (with_next test so_far r) rs
+
+abbrev pub inlined_arrays : PlanView → List ℕ
+inlined_arrays p = taken (is_taken p) [] (readings 0 p.ops)
+
+-- the plan in which they are inlined
+abbrev pub inlined_of : PlanView → PlanView
+inlined_of p = inlined_by p (stands_in (inlined_arrays p))

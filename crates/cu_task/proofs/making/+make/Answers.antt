@@ -1,0 +1,476 @@
+use Rattle.std.proofs.Common.{◌≡◌, ◌≤◌, ◌<◌, ◌+◌, ◌++◌, ℕ, List, [], Contains, length, drop, refl, sym, ap, ◌∙◌, subst, arith, rules}
+use Rattle.std.specs.Prelude.{OnOk}
+use Rattle.std.proofs.lemmas.List.Elements.{All-contains_itself}
+use Rattle.std.proofs.lemmas.List.Sums.{sum_by-append, sum_by-cons}
+use Rattle.std.proofs.lemmas.Result.{err_from_is_err_and}
+use Rattle.cu_store.specs.Steps.{NoChange, Steps}
+use Rattle.cu_store.proofs.StaysOpen.{open_then}
+use Rattle.cu_store.proofs.Steps.{steps_same, steps_then, steps_wider}
+use Rattle.cu_op.specs.Chunks.{walk}
+use Rattle.cu_op.specs.Operation.{value_array}
+use Rattle.cu_op.specs.Schedule.{op_of}
+use Rattle.cu_op.specs.Sound.{Sound}
+use Rattle.cu_op.specs.TaskView.{task_op, walk_at, IsReadAsIs, TaskView}
+use Rattle.cu_op.specs.Walks.{cells_of_walks, input_walks, walk_cells}
+use Rattle.cu_op.specs.declared.operation.Op.{Op}
+use Rattle.cu_op.specs.declared.walks.Walk.{Walk}
+use Rattle.cu_op.proofs.TaskCells.{fit_of}
+use Rattle.cu_region.specs.Calls.{Made}
+use Rattle.cu_task.specs.Calls.{chunk_calls}
+use Rattle.cu_task.specs.Inputs.{room_of_walks, walk_room, HasRegions, IsPullOf, IsWalkKey}
+use Rattle.cu_task.specs.OfTask.{calls_for_walk, calls_for_walks, held_inputs, kernel_words, walks_from, work_bytes, HasMade, HasWalk}
+use Rattle.cu_task.specs.Task.{IsComputing, IsCopy, IsTaskKey}
+use Rattle.cu_task.proofs.CopyTask.{copies_whole}
+use Rattle.cu_task.proofs.InputReads.{all_made, on_err_more, on_ok_then, regions_more, still_after, still_fewer}
+use Rattle.cu_task.proofs.Inside.{computed_calls, own_fault, own_key, own_sure, read_has, read_of, scratch_of_work, steps_of_own, stored_calls}
+use Rattle.cu_task.proofs.JobViews.{job_is_view}
+use Rattle.cu_task.proofs.MadeParts.{alike_made, at_end, later_fault, next_walk}
+use Rattle.cu_task.proofs.PullTask.{of_pull}
+use Rattle.cu_task.proofs.TaskKinds.{computing, none_stored}
+use Rattle.cu_task.proofs.TaskRegions.{scratch_read}
+use Rattle.cu_task.proofs.TaskRooms.{kept_computing}
+use Rattle.cu_task.proofs.making.+make.Goals as goal
+
+-- ---- make_result
+
+pub make_result-compute_result-requires : goal.make_result-compute_result-requires
+make_result-compute_result-requires g t c κs sub = (
+  omega (arith, c.decreases),
+  (
+    search rules,
+    (
+      search rules,
+      (
+        search rules,
+        (
+          c.requires.belongs,
+          (c.requires.may, (subst IsComputing c.operation.ensures.operation (computing c.operation.result.now c.in_default.not-Pull c.in_default.not-Copy), c.requires.room)),
+        ),
+      ),
+    ),
+  ),
+)
+
+pub make_result-shapes_of-shapes-requires-clause-within : goal.make_result-shapes_of-shapes-requires-clause-within
+make_result-shapes_of-shapes-requires-clause-within g t c =
+    let is : IsPullOf (op_of c.args.task.now.plan c.args.task.now.op) c.in-Pull.pull c.as_slice-ins.result.now = subst (λ (o : Op). IsPullOf o c.in-Pull.pull c.as_slice-ins.result.now) (sym (sym c.operation.ensures.operation ∙ c.in-Pull.is)) (refl, c.as_slice-ins.ensures.value) in
+    (of_pull c.args.task.now.plan c.args.task.now.op (op_of c.args.task.now.plan c.args.task.now.op) c.args.task.now.number c.in-Pull.pull c.as_slice-ins.result.now (fit_of c.args.task.now.plan c.operation.ensures.sound c.args.task.now.op c.args.task.now.operation) is).reads
+
+pub make_result-pull_result-requires-clause-job : goal.make_result-pull_result-requires-clause-job
+make_result-pull_result-requires-clause-job g t c =
+    let is : IsPullOf (op_of c.args.task.now.plan c.args.task.now.op) c.in-Pull.pull c.as_slice-ins.result.now = subst (λ (o : Op). IsPullOf o c.in-Pull.pull c.as_slice-ins.result.now) (sym (sym c.operation.ensures.operation ∙ c.in-Pull.is)) (refl, c.as_slice-ins.ensures.value) in
+    let few : length c.as_slice-ins.result.now ≤ 8 = search rules in
+    job_is_view _ c.operation.ensures.sound is few (search rules)
+
+pub make_result-pull_result-requires-clause-scratch : goal.make_result-pull_result-requires-clause-scratch
+make_result-pull_result-requires-clause-scratch g t c =
+    let own = scratch_of_work c.args.task.now.plan c.args.task.now.op in
+    let most = c.requires.room.scratch in
+    omega (arith, own, most)
+
+pub make_result-copy_region-requires-clause-scratch : goal.make_result-copy_region-requires-clause-scratch
+make_result-copy_region-requires-clause-scratch g t c =
+    let own = scratch_of_work c.args.task.now.plan c.args.task.now.op in
+    let most = c.requires.room.scratch in
+    omega (arith, own, most)
+
+pub make_result-returns-in-Pull-clause-made : goal.make_result-returns-in-Pull-clause-made
+make_result-returns-in-Pull-clause-made g t c held still =
+    let is : IsPullOf (op_of c.args.task.now.plan c.args.task.now.op) c.in-Pull.pull c.as_slice-ins.result.now = subst (λ (o : Op). IsPullOf o c.in-Pull.pull c.as_slice-ins.result.now) (sym (sym c.operation.ensures.operation ∙ c.in-Pull.is)) (refl, c.as_slice-ins.ensures.value) in
+    let whole = (of_pull c.args.task.now.plan c.args.task.now.op (op_of c.args.task.now.plan c.args.task.now.op) c.args.task.now.number c.in-Pull.pull c.as_slice-ins.result.now (fit_of c.args.task.now.plan c.operation.ensures.sound c.args.task.now.op c.args.task.now.operation) is).whole in
+    on_ok_then c.pull_result.result
+    (λ made. alike_made c.args.task.now c.operation.ensures.sound held (g.C.Chunks.shown c.args.access.now) _ whole (ap value_array (sym c.operation.ensures.operation ∙ c.in-Pull.is)) still made)
+    (c.pull_result.ensures.values still.now (still.told, still.steady))
+
+pub make_result-returns-in-Pull-clause-elements : goal.make_result-returns-in-Pull-clause-elements
+make_result-returns-in-Pull-clause-elements g t c =
+    on_ok_then c.pull_result.result
+    (λ elements. record { output = elements; values = λ array is. absurd (none_stored array (sym (ap value_array (sym c.operation.ensures.operation ∙ c.in-Pull.is)) ∙ is)) })
+    c.pull_result.ensures.elements
+
+pub make_result-returns-in-Pull-clause-room : goal.make_result-returns-in-Pull-clause-room
+make_result-returns-in-Pull-clause-room g t c = record {
+  scratch = subst (λ (n : ℕ). work_bytes c.args.task.now ≤ n) (sym c.pull_result.auto.scratch) c.requires.room.scratch;
+  inputs = c.requires.room.inputs;
+  values = c.requires.room.values;
+  output = c.pull_result.auto.output ∙ c.requires.room.output;
+  words = c.requires.room.words;
+}
+
+pub make_result-returns-in-Pull-clause-all : goal.make_result-returns-in-Pull-clause-all
+make_result-returns-in-Pull-clause-all g t c sure = c.pull_result.ensures.all (own_sure c.args.task.now.plan c.args.task.now.op sure)
+
+pub make_result-returns-in-Copy-clause-made : goal.make_result-returns-in-Copy-clause-made
+make_result-returns-in-Copy-clause-made g t c held still =
+    let copy : IsCopy (op_of c.args.task.now.plan c.args.task.now.op) = subst IsCopy (sym (sym c.operation.ensures.operation ∙ c.in-Copy.is)) tt in
+    on_ok_then c.copy_region.result
+    (λ made. alike_made c.args.task.now c.operation.ensures.sound held (g.C.Chunks.shown c.args.access.now) _ (copies_whole c.args.task.now.plan.arrays (op_of c.args.task.now.plan c.args.task.now.op) copy) (ap value_array (sym c.operation.ensures.operation ∙ c.in-Copy.is)) still made)
+    (c.copy_region.ensures.values still.now (still.told, still.steady))
+
+pub make_result-returns-in-Copy-clause-elements : goal.make_result-returns-in-Copy-clause-elements
+make_result-returns-in-Copy-clause-elements g t c =
+    on_ok_then c.copy_region.result
+    (λ elements. record { output = elements; values = λ array is. absurd (none_stored array (sym (ap value_array (sym c.operation.ensures.operation ∙ c.in-Copy.is)) ∙ is)) })
+    c.copy_region.ensures.elements
+
+pub make_result-returns-in-Copy-clause-room : goal.make_result-returns-in-Copy-clause-room
+make_result-returns-in-Copy-clause-room g t c = record {
+  scratch = subst (λ (n : ℕ). work_bytes c.args.task.now ≤ n) (sym c.copy_region.auto.scratch) c.requires.room.scratch;
+  inputs = c.requires.room.inputs;
+  values = c.requires.room.values;
+  output = c.copy_region.auto.output ∙ c.requires.room.output;
+  words = c.requires.room.words;
+}
+
+pub make_result-returns-in-Copy-clause-all : goal.make_result-returns-in-Copy-clause-all
+make_result-returns-in-Copy-clause-all g t c _ = c.copy_region.ensures.all
+
+-- ---- compute_result
+
+pub compute_result-read_inputs-requires : goal.compute_result-read_inputs-requires
+compute_result-read_inputs-requires g t c κs sub =
+    let inputs = c.requires.room.inputs ∙ kept_computing c.args.task.now.plan.arrays (op_of c.args.task.now.plan c.args.task.now.op) c.args.task.now.number c.requires.computing in (
+      omega (arith, c.decreases),
+      (search rules, (search rules, (search rules, (c.requires.belongs, (c.requires.may, (omega arith, (omega (arith, inputs), (c.requires.room.scratch, c.requires.room.words)))))))),
+    )
+
+pub compute_result-compute-requires-clause-words : goal.compute_result-compute-requires-clause-words
+compute_result-compute-requires-clause-words g t c =
+    let own = steps_of_own c.args.task.now.plan c.args.task.now.op in
+    let most = c.requires.room.words in
+    let long = c.read_inputs.auto.words in
+    omega (arith, own, most, long)
+
+pub compute_result-compute-requires-clause-inputs : goal.compute_result-compute-requires-clause-inputs
+compute_result-compute-requires-clause-inputs g t c = c.read_inputs.auto.inputs ∙ c.requires.room.inputs ∙ kept_computing c.args.task.now.plan.arrays (op_of c.args.task.now.plan c.args.task.now.op) c.args.task.now.number c.requires.computing
+
+pub compute_result-returns-clause-made : goal.compute_result-returns-clause-made
+compute_result-returns-clause-made g t c held still =
+    let at = held_inputs c.args.task.now held in
+    let read = c.in_ok-read_inputs.ensures.read held still in
+    record { output = c.compute.ensures.output at read; values = λ array is. c.compute.ensures.values array is at read }
+
+pub compute_result-returns-clause-elements : goal.compute_result-returns-clause-elements
+compute_result-returns-clause-elements g t c = record { output = c.compute.ensures.output_elements; values = c.compute.ensures.value_elements }
+
+pub compute_result-returns-clause-room : goal.compute_result-returns-clause-room
+compute_result-returns-clause-room g t c = record {
+  scratch = subst (λ (n : ℕ). work_bytes c.args.task.now ≤ n) (sym c.read_inputs.auto.scratch) c.requires.room.scratch;
+  inputs = c.read_inputs.auto.inputs ∙ c.requires.room.inputs;
+  values = c.compute.auto.values ∙ c.requires.room.values;
+  output = c.compute.auto.output ∙ c.requires.room.output;
+  words = subst (λ (n : ℕ). kernel_words c.args.task.now ≤ n) (sym (c.compute.auto.words ∙ c.read_inputs.auto.words)) c.requires.room.words;
+}
+
+pub compute_result-returns-clause-step : goal.compute_result-returns-clause-step
+compute_result-returns-clause-step g t c =
+    let calls = computed_calls (chunk_calls c.args.task.now.plan c.args.task.now.op) c.args.task.now.plan.arrays (op_of c.args.task.now.plan c.args.task.now.op) c.args.task.now.number c.requires.computing in
+    subst (λ (n : ℕ). Steps NoChange 0 n (g.C.Chunks.shown c.args.access.now) (g.C.Chunks.shown c.read_inputs.new.access)) (sym calls) c.read_inputs.ensures.step
+
+pub compute_result-returns-clause-all : goal.compute_result-returns-clause-all
+compute_result-returns-clause-all g t c sure =
+    let calls = computed_calls (chunk_calls c.args.task.now.plan c.args.task.now.op) c.args.task.now.plan.arrays (op_of c.args.task.now.plan c.args.task.now.op) c.args.task.now.number c.requires.computing in
+    subst (λ (n : ℕ). Made n (g.C.Chunks.shown c.args.access.now).calls (g.C.Chunks.shown c.read_inputs.new.access).calls) (sym calls) (c.in_ok-read_inputs.ensures.all sure)
+
+pub compute_result-returns-in_err-read_inputs-clause-room : goal.compute_result-returns-in_err-read_inputs-clause-room
+compute_result-returns-in_err-read_inputs-clause-room g t c = record {
+  scratch = subst (λ (n : ℕ). work_bytes c.args.task.now ≤ n) (sym c.read_inputs.auto.scratch) c.requires.room.scratch;
+  inputs = c.read_inputs.auto.inputs ∙ c.requires.room.inputs;
+  values = c.requires.room.values;
+  output = c.requires.room.output;
+  words = subst (λ (n : ℕ). kernel_words c.args.task.now ≤ n) (sym c.read_inputs.auto.words) c.requires.room.words;
+}
+
+pub compute_result-returns-in_err-read_inputs-clause-step : goal.compute_result-returns-in_err-read_inputs-clause-step
+compute_result-returns-in_err-read_inputs-clause-step g t c =
+    let calls = computed_calls (chunk_calls c.args.task.now.plan c.args.task.now.op) c.args.task.now.plan.arrays (op_of c.args.task.now.plan c.args.task.now.op) c.args.task.now.number c.requires.computing in
+    subst (λ (n : ℕ). Steps NoChange 0 n (g.C.Chunks.shown c.args.access.now) (g.C.Chunks.shown c.read_inputs.new.access)) (sym calls) c.read_inputs.ensures.step
+
+pub compute_result-returns-in_err-read_inputs-clause-made : goal.compute_result-returns-in_err-read_inputs-clause-made
+compute_result-returns-in_err-read_inputs-clause-made g t c held still = let p = err_from_is_err_and c.from_residual.result c.from_residual.ensures.1 in rw p.1 tt
+
+pub compute_result-returns-in_err-read_inputs-clause-elements : goal.compute_result-returns-in_err-read_inputs-clause-elements
+compute_result-returns-in_err-read_inputs-clause-elements g t c = let p = err_from_is_err_and c.from_residual.result c.from_residual.ensures.1 in rw p.1 tt
+
+pub compute_result-returns-in_err-read_inputs-clause-all : goal.compute_result-returns-in_err-read_inputs-clause-all
+compute_result-returns-in_err-read_inputs-clause-all g t c sure = let p = err_from_is_err_and c.from_residual.result c.from_residual.ensures.1 in rw p.1 tt
+
+pub compute_result-returns-in_err-read_inputs-clause-cause : goal.compute_result-returns-in_err-read_inputs-clause-cause
+compute_result-returns-in_err-read_inputs-clause-cause g t c = let p = err_from_is_err_and c.from_residual.result c.from_residual.ensures.1 in rw (p.1, p.2) c.in_err-read_inputs.ensures.cause
+
+-- ---- read_inputs
+
+pub read_inputs-returns-then-place-input_walks-clause-read : goal.read_inputs-returns-then-place-input_walks-clause-read
+read_inputs-returns-then-place-input_walks-clause-read g t c held still =
+    let walks = input_walks c.args.task.now.plan.arrays (op_of c.args.task.now.plan c.args.task.now.op) c.args.task.now.number in
+    let none : drop c.args.place walks ≡ [] = at_end walks c.args.place (search rules) in
+    rw none tt
+
+pub read_inputs-returns-then-place-input_walks-clause-step : goal.read_inputs-returns-then-place-input_walks-clause-step
+read_inputs-returns-then-place-input_walks-clause-step g t c =
+    steps_wider (λ key value none. none) (omega arith) (omega arith) (steps_same NoChange (g.C.Chunks.shown c.args.access.now))
+
+pub read_inputs-read_input-requires : goal.read_inputs-read_input-requires
+read_inputs-read_input-requires g t c κs sub =
+    let room = c.split_at_mut-own.ensures.front_len ∙ c.walk_bytes.ensures.bytes ∙ ap (walk_room c.args.task.now.plan.arrays) c.input_walk-walk.ensures.walk in (
+      omega (arith, c.decreases),
+      (search rules, (search rules, (search rules, (c.requires.belongs, (c.requires.may, (search rules, (room, (c.requires.scratch, c.requires.words)))))))),
+    )
+
+pub read_inputs-read_inputs-requires : goal.read_inputs-read_inputs-requires
+read_inputs-read_inputs-requires g t c κs sub =
+    let arrays = c.args.task.now.plan.arrays in
+    let walks = input_walks c.args.task.now.plan.arrays (op_of c.args.task.now.plan c.args.task.now.op) c.args.task.now.number in
+    let below : c.args.place < length walks = search rules in
+    let few = subst (λ (ws : List Walk). length ws ≤ 8) c.input_walks.ensures.walks c.input_walks.ensures.few in
+    let next = next_walk walks c.args.place (walk 0 [] []) below in
+    let sum = ap (room_of_walks arrays) next ∙ sum_by-cons (walk_room arrays) (walk_at c.args.task.now c.args.place) (drop (c.args.place + 1) walks) in
+    let own = c.walk_bytes.ensures.bytes ∙ ap (walk_room arrays) c.input_walk-walk.ensures.walk in
+    let back = c.split_at_mut-own.ensures.back_len in
+    let room = c.requires.room in
+    let scratch = c.requires.scratch in
+    let words = c.requires.words in
+    let scratch_len = c.read_input.auto.scratch in
+    let words_len = c.read_input.auto.words in (
+      omega (arith, c.decreases, below, few),
+      (
+        search rules,
+        (
+          search rules,
+          (
+            search rules,
+            (
+              c.read_input.ensures.open.belongs,
+              (
+                (λ key here. c.read_input.ensures.open.gets key (c.requires.may key here)),
+                (omega (arith, below), (omega (arith, sum, own, back, room), (omega (arith, scratch, scratch_len), omega (arith, words, words_len)))),
+              ),
+            ),
+          ),
+        ),
+      ),
+    )
+
+pub read_inputs-returns-clause-read : goal.read_inputs-returns-clause-read
+read_inputs-returns-clause-read g t c held still =
+    let task = c.args.task.now in
+    let arrays = task.plan.arrays in
+    let walks = input_walks task.plan.arrays (op_of task.plan task.op) task.number in
+    let below : c.args.place < length walks = search rules in
+    let next = next_walk walks c.args.place (walk 0 [] []) below in
+    let w = walk_at task c.args.place in
+    let at = held_inputs task held in
+    let own = c.walk_bytes.ensures.bytes ∙ ap (walk_room arrays) c.input_walk-walk.ensures.walk in
+    let front = c.split_at_mut-own.ensures.front_len in
+    let long : length c.read_input.new.out ≡ walk_room arrays w = c.read_input.auto.out ∙ front ∙ own in
+    let first = c.in_ok-read_input.ensures.read held still in
+    let later = still_after (IsTaskKey task.plan task.op task.number) held (g.C.Chunks.shown c.args.access.now) (g.C.Chunks.shown c.read_input.new.access) 0 (calls_for_walk task w) still c.read_input.ensures.step in
+    on_ok_then c.read_inputs.result
+    (λ has. subst (λ (ws : List Walk). HasRegions arrays at ws (c.read_input.new.out ++ c.read_inputs.new.inputs)) (sym next)
+    (regions_more arrays w (drop (c.args.place + 1) walks) at c.read_input.new.out c.read_inputs.new.inputs long first has))
+    (c.read_inputs.ensures.read held later)
+
+-- the calls for the region at a place, and for those behind it
+next_calls : (t : TaskView) (place : ℕ) → place < length (input_walks t.plan.arrays (task_op t) t.number)
+    → calls_for_walks t (walks_from t place) ≡ calls_for_walk t (walk_at t place) + calls_for_walks t (walks_from t (place + 1))
+next_calls t place below =
+    let walks = input_walks t.plan.arrays (task_op t) t.number in
+    ap (calls_for_walks t) (next_walk walks place (walk 0 [] []) below)
+    ∙ sum_by-append (chunk_calls t.plan t.op) (walk_cells t.plan.arrays (walk_at t place)) (cells_of_walks t.plan.arrays (drop (place + 1) walks))
+
+pub read_inputs-returns-clause-step : goal.read_inputs-returns-clause-step
+read_inputs-returns-clause-step g t c =
+    let calls = next_calls c.args.task.now c.args.place (search rules) in
+    steps_wider (λ key value none. none) (omega arith) (omega (arith, calls)) (steps_then c.read_input.ensures.step c.read_inputs.ensures.step)
+
+pub read_inputs-returns-clause-all : goal.read_inputs-returns-clause-all
+read_inputs-returns-clause-all g t c sure =
+    let task = c.args.task.now in
+    let calls = next_calls c.args.task.now c.args.place (search rules) in
+    on_ok_then c.read_inputs.result
+    (λ made. subst (λ (n : ℕ). Made n (g.C.Chunks.shown c.args.access.now).calls (g.C.Chunks.shown c.read_inputs.new.access).calls) (sym calls)
+    (all_made (g.C.Chunks.shown c.args.access.now).calls (g.C.Chunks.shown c.read_input.new.access).calls (g.C.Chunks.shown c.read_inputs.new.access).calls
+    (calls_for_walk task (walk_at task c.args.place)) (calls_for_walks task (walks_from task (c.args.place + 1))) (c.in_ok-read_input.ensures.all sure) made))
+    (c.read_inputs.ensures.all sure)
+
+pub read_inputs-returns-clause-cause : goal.read_inputs-returns-clause-cause
+read_inputs-returns-clause-cause g t c =
+    on_err_more c.read_inputs.result
+    (λ e fault. later_fault (g.C.Chunks.shown c.args.access.now) (g.C.Chunks.shown c.read_input.new.access) (g.C.Chunks.shown c.read_inputs.new.access) c.args.task.now.plan c.args.task.now.op c.args.task.now.number e c.read_input.ensures.step.count fault)
+    c.read_inputs.ensures.cause
+
+pub read_inputs-returns-clause-open : goal.read_inputs-returns-clause-open
+read_inputs-returns-clause-open g t c = open_then c.read_input.ensures.open c.read_inputs.ensures.open
+
+pub read_inputs-returns-in_err-read_input-clause-open : goal.read_inputs-returns-in_err-read_input-clause-open
+read_inputs-returns-in_err-read_input-clause-open g t c = c.read_input.ensures.open
+
+pub read_inputs-returns-in_err-read_input-clause-step : goal.read_inputs-returns-in_err-read_input-clause-step
+read_inputs-returns-in_err-read_input-clause-step g t c =
+    let calls = next_calls c.args.task.now c.args.place (search rules) in
+    steps_wider (λ key value none. none) (omega arith) (omega (arith, calls)) c.read_input.ensures.step
+
+pub read_inputs-returns-in_err-read_input-clause-read : goal.read_inputs-returns-in_err-read_input-clause-read
+read_inputs-returns-in_err-read_input-clause-read g t c held still = let p = err_from_is_err_and c.from_residual.result c.from_residual.ensures.1 in rw p.1 tt
+
+pub read_inputs-returns-in_err-read_input-clause-all : goal.read_inputs-returns-in_err-read_input-clause-all
+read_inputs-returns-in_err-read_input-clause-all g t c sure = let p = err_from_is_err_and c.from_residual.result c.from_residual.ensures.1 in rw p.1 tt
+
+pub read_inputs-returns-in_err-read_input-clause-cause : goal.read_inputs-returns-in_err-read_input-clause-cause
+read_inputs-returns-in_err-read_input-clause-cause g t c = let p = err_from_is_err_and c.from_residual.result c.from_residual.ensures.1 in rw (p.1, p.2) c.in_err-read_input.ensures.cause
+
+-- ---- read_input
+
+-- the region that is read as it is
+as_listed : (t : TaskView) (place : ℕ) (w : Walk) → place < length (input_walks t.plan.arrays (task_op t) t.number) → w ≡ walk_at t place
+    → Contains (input_walks t.plan.arrays (task_op t) t.number) w
+as_listed t place w below same =
+    subst (λ (v : Walk). Contains (input_walks t.plan.arrays (task_op t) t.number) v) (sym same) (All-contains_itself (input_walks t.plan.arrays (task_op t) t.number) place (walk 0 [] []) below)
+
+pub read_input-read_walk-requires-clause-may : goal.read_input-read_walk-requires-clause-may
+read_input-read_walk-requires-clause-may g t c key here =
+    let task = c.args.task.now in
+    let w = c.input_walk-walk.result in
+    let listed = as_listed task c.args.place w c.requires.place c.input_walk-walk.ensures.walk in
+    let as_is = subst (IsReadAsIs task.plan.arrays) (sym c.input_walk-walk.ensures.walk) (c.inner_task.ensures.none c.in-None.is) in
+    c.requires.may key (own_key task.plan c.input_walk-walk.ensures.sound task.op task.number w listed as_is key here)
+
+pub read_input-read_walk-requires-clause-scratch : goal.read_input-read_walk-requires-clause-scratch
+read_input-read_walk-requires-clause-scratch g t c =
+    let task = c.args.task.now in
+    let w = c.input_walk-walk.result in
+    let listed = as_listed task c.args.place w c.requires.place c.input_walk-walk.ensures.walk in
+    let own = scratch_read task.plan.arrays (op_of task.plan task.op) w.array (read_of task.plan c.input_walk-walk.ensures.sound task.op task.number w listed) in
+    let work = scratch_of_work task.plan task.op in
+    let most = c.requires.scratch in
+    omega (arith, own, work, most)
+
+pub read_input-read_walk-requires-clause-room : goal.read_input-read_walk-requires-clause-room
+read_input-read_walk-requires-clause-room g t c = c.requires.room ∙ ap (walk_room c.args.task.now.plan.arrays) (sym c.input_walk-walk.ensures.walk)
+
+pub read_input-returns-in-None-clause-read : goal.read_input-returns-in-None-clause-read
+read_input-returns-in-None-clause-read g t c held still =
+    let task = c.args.task.now in
+    let w = c.input_walk-walk.result in
+    let s = c.input_walk-walk.ensures.sound in
+    let same = c.input_walk-walk.ensures.walk in
+    let listed = as_listed task c.args.place w c.requires.place same in
+    let as_is = subst (IsReadAsIs task.plan.arrays) (sym same) (c.inner_task.ensures.none c.in-None.is) in
+    let fewer = still_fewer (IsTaskKey task.plan task.op task.number) (IsWalkKey task.plan.arrays w) held (g.C.Chunks.shown c.args.access.now) (own_key task.plan s task.op task.number w listed as_is) still in
+    on_ok_then c.read_walk.result
+    (λ reads. subst (λ (v : Walk). HasWalk task (held_inputs task held) v c.read_walk.new.out) same (read_has task.plan s w held c.read_walk.new.out c.input_walk-walk.ensures.over as_is reads))
+    (c.read_walk.ensures.read held fewer)
+
+as_calls : (t : TaskView) (s : Sound t.plan) (place : ℕ) (w : Walk) → w ≡ walk_at t place → IsReadAsIs t.plan.arrays (walk_at t place)
+    → length (walk_cells t.plan.arrays w) ≡ calls_for_walk t (walk_at t place)
+as_calls t s place w same as_is = ap (λ (v : Walk). length (walk_cells t.plan.arrays v)) same ∙ sym (stored_calls t.plan s t.op (walk_at t place) as_is)
+
+pub read_input-returns-in-None-clause-step : goal.read_input-returns-in-None-clause-step
+read_input-returns-in-None-clause-step g t c =
+    let calls = as_calls c.args.task.now c.input_walk-walk.ensures.sound c.args.place c.input_walk-walk.result c.input_walk-walk.ensures.walk (c.inner_task.ensures.none c.in-None.is) in
+    subst (λ (n : ℕ). Steps NoChange 0 n (g.C.Chunks.shown c.args.access.now) (g.C.Chunks.shown c.read_walk.new.access)) calls c.read_walk.ensures.step
+
+pub read_input-returns-in-None-clause-all : goal.read_input-returns-in-None-clause-all
+read_input-returns-in-None-clause-all g t c sure =
+    let calls = as_calls c.args.task.now c.input_walk-walk.ensures.sound c.args.place c.input_walk-walk.result c.input_walk-walk.ensures.walk (c.inner_task.ensures.none c.in-None.is) in
+    subst (λ (n : ℕ). OnOk c.read_walk.result (Made n (g.C.Chunks.shown c.args.access.now).calls (g.C.Chunks.shown c.read_walk.new.access).calls)) calls c.read_walk.ensures.all
+
+pub read_input-returns-in-None-clause-cause : goal.read_input-returns-in-None-clause-cause
+read_input-returns-in-None-clause-cause g t c =
+    let task = c.args.task.now in
+    let w = c.input_walk-walk.result in
+    let listed = as_listed task c.args.place w c.requires.place c.input_walk-walk.ensures.walk in
+    let as_is = subst (IsReadAsIs task.plan.arrays) (sym c.input_walk-walk.ensures.walk) (c.inner_task.ensures.none c.in-None.is) in
+    on_err_more c.read_walk.result
+    (λ e fault. own_fault task.plan c.input_walk-walk.ensures.sound task.op task.number w listed as_is (g.C.Chunks.shown c.args.access.now) (g.C.Chunks.shown c.read_walk.new.access) e fault)
+    c.read_walk.ensures.cause
+
+-- and one that is made
+pub read_input-make_inner-requires : goal.read_input-make_inner-requires
+read_input-make_inner-requires g t c κs sub =
+    let st = c.in-Some.ensures.made in
+    let before = st.before in
+    let room = c.requires.room in
+    let made = st.room in
+    let scratch = c.requires.scratch in
+    let own = st.scratch in
+    let words = c.requires.words in
+    let own_words = st.words in (
+      omega (arith, c.decreases, before),
+      (
+        search rules,
+        (
+          search rules,
+          (
+            search rules,
+            (
+              c.requires.belongs,
+              (
+                (λ key here. c.requires.may key (st.keys key here)),
+                (st.only, (room ∙ sym made, (omega (arith, scratch, own), (st.small, omega (arith, words, own_words))))),
+              ),
+            ),
+          ),
+        ),
+      ),
+    )
+
+pub read_input-returns-in-Some-clause-read : goal.read_input-returns-in-Some-clause-read
+read_input-returns-in-Some-clause-read g t c held still =
+    let task = c.args.task.now in
+    let inner = c.in-Some.inner in
+    let st = c.in-Some.ensures.made in
+    let fewer = still_fewer (IsTaskKey task.plan task.op task.number) (IsTaskKey inner.plan inner.op inner.number) held (g.C.Chunks.shown c.args.access.now) st.keys still in
+    on_ok_then c.make_inner.result (λ made. st.values held c.make_inner.new.output made) (c.make_inner.ensures.made held fewer)
+
+pub read_input-returns-in-Some-clause-step : goal.read_input-returns-in-Some-clause-step
+read_input-returns-in-Some-clause-step g t c =
+    subst (λ (n : ℕ). Steps NoChange 0 n (g.C.Chunks.shown c.args.access.now) (g.C.Chunks.shown c.make_inner.new.access)) c.in-Some.ensures.made.calls c.make_inner.ensures.step
+
+pub read_input-returns-in-Some-clause-all : goal.read_input-returns-in-Some-clause-all
+read_input-returns-in-Some-clause-all g t c sure =
+    subst (λ (n : ℕ). OnOk c.make_inner.result (Made n (g.C.Chunks.shown c.args.access.now).calls (g.C.Chunks.shown c.make_inner.new.access).calls)) c.in-Some.ensures.made.calls (c.make_inner.ensures.all (c.in-Some.ensures.made.sure sure))
+
+pub read_input-returns-in-Some-clause-cause : goal.read_input-returns-in-Some-clause-cause
+read_input-returns-in-Some-clause-cause g t c =
+    on_err_more c.make_inner.result (c.in-Some.ensures.made.faults (g.C.Chunks.shown c.args.access.now) (g.C.Chunks.shown c.make_inner.new.access)) c.make_inner.ensures.cause
+
+-- ---- make_inner
+
+pub make_inner-make_result-requires : goal.make_inner-make_result-requires
+make_inner-make_result-requires g t c κs sub =
+    let kept = c.kept_bytes.ensures in
+    let front = c.split_at_mut-inputs.ensures.front_len in
+    let back = c.split_at_mut-inputs.ensures.back_len in
+    let none = c.split_at_mut-values.ensures.front_len in
+    let left = c.split_at_mut-values.ensures.back_len in
+    let scratch = c.requires.scratch in
+    let only = c.requires.only in (
+      omega (arith, c.decreases),
+      (
+        search rules,
+        (
+          search rules,
+          (
+            search rules,
+            (
+              c.requires.belongs,
+              (
+                c.requires.may,
+                record {
+                  scratch = omega (arith, kept, back, left, scratch);
+                  inputs = omega (arith, kept, front);
+                  values = omega (arith, none, only);
+                  output = c.requires.output;
+                  words = c.requires.words;
+                },
+              ),
+            ),
+          ),
+        ),
+      ),
+    )
+
+pub make_inner-returns-clause-made : goal.make_inner-returns-clause-made
+make_inner-returns-clause-made g t c held still =
+    on_ok_then c.make_result.result (λ made. subst (λ (out : List ℕ). HasMade c.args.task.now (held_inputs c.args.task.now held) out) (search rules) made.output) (c.make_result.ensures.made held still)
