@@ -220,7 +220,8 @@ class Case:
     def damage_chunk(self):
         entry = self.pick.choice(self.inputs)
         path = os.path.join(self.folder, self.pick.choice(entry.keys))
-        size = os.path.getsize(path)
+        # (of no chunk the right length, though it may have been spoiled before)
+        size = rules.bytes_of(entry.array.dtype, entry.array.chunk)
         os.truncate(path, self.pick.choice([0, size - 1, size + 1, 2 * size]))
 
     def damage_way(self):
