@@ -51,8 +51,14 @@ KERNELS = {
         "Load 0, Load 1, Two Add Int32 0 1"),
     "Tripled": ("Int32 Int32 Int32", "Int32",
         "Load 0, Load 1, Two Add Int32 0 1, Const 3, Two Multiply Int32 2 3"),
+    "Maximum": ("Int16 Int16 Int16", "Int16",
+        "Load 0, Load 1, Two GreaterEqual Int16 0 1, Select 2 0 1"),
+    "Minimum": ("Int32 Int32 Int32", "Int32",
+        "Load 0, Load 1, Two LessEqual Int32 0 1, Select 2 0 1"),
+    "Clipped": ("Int16 Int16 Int16", "Int16",
+        "Load 0, Const 7, Two GreaterEqual Int16 0 1, Select 2 0 1, Const 9000, Two LessEqual Int16 3 4, Select 5 3 4"),
 }
-TRUTH = {"Greater", "NotEqual"}
+TRUTH = {"Greater", "GreaterEqual", "LessEqual", "NotEqual"}
 
 # The program: `kernels_bench` prints for each case its name, the least nanoseconds, the calls, the elements and a checksum.
 SOURCE = """\
@@ -335,6 +341,12 @@ fn fused(rt: &HostRuntime) -> io::Result<()> {
     same(rt, "longer", Kind::Longer, 65536, 4)
 }
 
+fn bounded(rt: &HostRuntime) -> io::Result<()> {
+    same(rt, "maximum", Kind::Maximum, 65536, 4)?;
+    same(rt, "minimum", Kind::Minimum, 65536, 4)?;
+    same(rt, "clipped", Kind::Clipped, 65536, 4)
+}
+
 fn chains(rt: &HostRuntime) -> io::Result<()> {
     same(rt, "eight_int32", Kind::Eight, 65536, 4)?;
     same(rt, "eight_int8", Kind::EightNarrow, 65536, 4)?;
@@ -378,6 +390,7 @@ fn tripled(rt: &HostRuntime) -> io::Result<()> {
 fn main(rt: HostRuntime) -> io::Result<()> {
     fused(&rt)?;
     chains(&rt)?;
+    bounded(&rt)?;
     small(&rt)?;
     rows(&rt)?;
     columns(&rt)?;
@@ -584,6 +597,9 @@ def peer(numpy, name, a, b, c):
         "Eight": lambda: eight(numpy, a, b, o), "EightNarrow": lambda: eight(numpy, a, b, o), "EightWide": lambda: eight(numpy, a, b, o),
         "Sum": lambda: numpy.add(a, b, out=o),
         "Tripled": lambda: numpy.multiply(numpy.add(a, b, out=o), 3, out=o),
+        "Maximum": lambda: numpy.maximum(a, b, out=o),
+        "Minimum": lambda: numpy.minimum(a, b, out=o),
+        "Clipped": lambda: numpy.clip(a, 7, 9000, out=o),
     }
     return peers[name]
 
