@@ -1,30 +1,32 @@
 #!/usr/bin/env python3
 """Sums regions in memory up to each place, with `scan_region` and with NumPy's `cumsum`, and sums or takes the least of their elements by
-labels, with `group_region` and with NumPy's `add.at`, `minimum.at` and `bincount`. It prints the ratios of their times.
+labels, with `group_region` and with NumPy's `add.at`, `minimum.at` and `bincount`, and by a loop over the rows. It prints the ratios of
+their times, and last which of the aims were missed.
 
   along.py [--keep FOLDER] [--runs N] [--only WORD] [--cpu NAME..] [--program FILE..] [--processor N]
 
 A region has three axes: the one in the middle is summed along, or has the labels, so one element behind it makes it the last axis, and one
 before it the first. The bytes follow one another without order, and the labels, int32, go from 0 to below the groups. Each process takes
 the least time of its samples, the two in turn, and of each case the median of the runs' ratios counts. The results must have the same
-checksum. `bincount` adds floats, and of one line alone, so its time stands beside `add.at` where it has a value. Both processes run on
-one processor, with a real-time priority where `chrt` may give one.
+checksum. `bincount` adds floats, and of one line alone, so its time stands beside `add.at` where it has a value. The loop goes over the
+places of the axis, and adds what stands at each to what its label has so far (or takes the lesser of both): all that is before and behind
+the axis in one call, so it is left out where that is one element. Both processes run on one processor, with a real-time priority where
+`chrt` may give one.
 
 The program that makes the calls is written into a copy of the crates that it needs, and `rt run` proves and builds it there for each
 processor that is named (x86-64-v2, x86-64-v3), which takes some minutes. With --keep it is kept in that folder, by the sum of its
 sources, and a later run over the same sources builds nothing.
 """
-import argparse
-import os
-import statistics
 import sys
-import tempfile
-import time
 
 sys.dont_write_bytecode = True
-from programs import checksum, filled, lines_of, pinned, program_in  # programs.py, in this folder
+from programs import CHECKSUM, FILL, NUMBER, ZEROS, Calls, filled, least_of  # programs.py, in this folder
 
 NAME, NEEDS = "along_bench", "cu_num cu_shape cu_reduce cu_scan cu_group".split()
+
+# At most so much of the time of NumPy's ways.
+LOOP = "loop-over-rows"
+AIMS = {"cumsum": 1.0, "add.at": 0.1, "minimum.at": 0.1, "bincount": 1.0, LOOP: 0.5}
 
 # The cases: what is done, the type, the sizes before the axis, on it and behind it, the groups, the samples and the calls of a sample.
 CASES = [f"scan {t} {sizes} 0 5 1" for t in ("int32", "int64", "uint8", "int16") for sizes in ("4096 4096 1", "1 4096 4096", "64 64 4096", "256 256 256", "65536 16 16")]
@@ -41,7 +43,7 @@ SOURCE = """\
 //! Sums regions up to each place, or by labels, several times, and prints the least time and a checksum of the results.
 #![tactic(auto)]
 
-ghost use Rattle.std.specs.Prelude.{◌≡◌, ◌*◌, ◌∷◌, [], IfSome, length};
+ghost use Rattle.std.specs.Prelude.{◌≡◌, ◌*◌, ◌<◌, ◌∷◌, [], IfOk, IfSome, length};
 ghost use Rattle.cu_num.specs.Dtype.{size_of, IsInteger};
 ghost use Rattle.cu_reduce.specs.Kinds.{Accumulates};
 
@@ -104,27 +106,47 @@ fn bytes(outer: u64, count: u64, inner: u64, size: u64) -> Option<u64>
         .checked_mul(size)
 }
 
-/// One call; `false` where the memory has other sizes.
-fn call(case: Case, input: &[u8], labels: &[u8], out: &mut [u8]) -> bool
-    requires types { Accumulates case.kind case.t case.acc }
-    requires acc { IsInteger case.acc }
+/// The bytes of a case's region, of its labels and of what is made.
+#[derive(Clone, Copy)]
+struct Room {
+    input: u64,
+    labels: u64,
+    out: u64,
+}
+
+fn room_of(case: Case) -> Option<Room>
+    ensures input { IfSome result (λ r. r.input ≡ case.outer * (case.count * case.inner) * size_of case.t) }
+    ensures labels { IfSome result (λ r. r.labels ≡ case.count * 4) }
+    ensures scanned { case.groups ≡ 0 → IfSome result (λ r. r.out ≡ case.outer * (case.count * case.inner) * size_of case.acc) }
+    ensures grouped { 0 < case.groups → IfSome result (λ r. r.out ≡ case.outer * (case.groups * case.inner) * size_of case.acc) }
 {
-    let Ok(dims) = Dims::make(&[case.outer, case.count, case.inner]) else {
-        return false;
-    };
     let rows = if case.groups == 0 {
         case.count
     } else {
         case.groups as u64
     };
-    let (Some(source), Some(made), Some(marks)) = (
-        bytes(case.outer, case.count, case.inner, size(case.t)),
-        bytes(case.outer, rows, case.inner, size(case.acc)),
-        case.count.checked_mul(4),
+    Some(Room {
+        input: bytes(case.outer, case.count, case.inner, size(case.t))?,
+        labels: case.count.checked_mul(4)?,
+        out: bytes(case.outer, rows, case.inner, size(case.acc))?,
+    })
+}
+
+/// One call; `false` where the memory has other sizes.
+fn call(case: Case, input: &[u8], labels: &[u8], out: &mut [u8]) -> bool
+    requires types { Accumulates case.kind case.t case.acc }
+    requires acc { IsInteger case.acc }
+{
+    let (Ok(dims), Some(room)) = (
+        Dims::make(&[case.outer, case.count, case.inner]),
+        room_of(case),
     ) else {
         return false;
     };
-    if input.len() as u64 != source || out.len() as u64 != made || labels.len() as u64 != marks {
+    if input.len() as u64 != room.input
+        || labels.len() as u64 != room.labels
+        || out.len() as u64 != room.out
+    {
         return false;
     }
     if case.groups == 0 {
@@ -135,14 +157,7 @@ fn call(case: Case, input: &[u8], labels: &[u8], out: &mut [u8]) -> bool
     true
 }
 
-/// Bytes that follow one another without order.
-fn fill(bytes: &mut [u8]) {
-    let mut x = 0u32;
-    for byte in bytes.iter_mut() {
-        x = x.wrapping_add(2654435761);
-        *byte = (x >> 24) as u8;
-    }
-}
+""" + FILL + """\
 
 /// Labels of four bytes, from 0 to below the groups.
 fn fill_labels(bytes: &mut [u8], groups: u32) {
@@ -159,23 +174,9 @@ fn fill_labels(bytes: &mut [u8], groups: u32) {
     }
 }
 
-/// The sum of each byte times its place, counted from 1, modulo 2^64.
-fn checksum(bytes: &[u8]) -> u64 {
-    let mut sum = 0u64;
-    for (place, byte) in bytes.iter().enumerate() {
-        let weight = (place as u64).wrapping_add(1);
-        sum = sum.wrapping_add(weight.wrapping_mul(u64::from(*byte)));
-    }
-    sum
-}
+""" + CHECKSUM + """\
 
-/// That many bytes of 0.
-fn zeros(alloc: Global, len: u64) -> io::Result<Vec<u8>> {
-    match vec![in alloc; 0u8; len as usize] {
-        Ok(bytes) => Ok(bytes),
-        Err(_) => Err(io::Error::from(io::ErrorKind::OutOfMemory)),
-    }
-}
+""" + ZEROS + """\
 
 fn type_named(name: &str) -> Dtype
     ensures { IsInteger result }
@@ -207,23 +208,14 @@ fn timed(rt: &HostRuntime, case: Case, samples: u32, rounds: u32) -> io::Result<
     requires types { Accumulates case.kind case.t case.acc }
     requires acc { IsInteger case.acc }
 {
-    let rows = if case.groups == 0 {
-        case.count
-    } else {
-        case.groups as u64
-    };
-    let (Some(source), Some(made), Some(marks)) = (
-        bytes(case.outer, case.count, case.inner, size(case.t)),
-        bytes(case.outer, rows, case.inner, size(case.acc)),
-        case.count.checked_mul(4),
-    ) else {
+    let Some(room) = room_of(case) else {
         return Ok(());
     };
-    let mut input = zeros(rt.alloc(), source)?;
+    let mut input = zeros(rt.alloc(), room.input as usize)?;
     fill(&mut input);
-    let mut labels = zeros(rt.alloc(), marks)?;
+    let mut labels = zeros(rt.alloc(), room.labels as usize)?;
     fill_labels(&mut labels, case.groups);
-    let mut out = zeros(rt.alloc(), made)?;
+    let mut out = zeros(rt.alloc(), room.out as usize)?;
     let mut best = u128::MAX;
     let mut ok = true;
     for _ in 0..samples {
@@ -237,12 +229,7 @@ fn timed(rt: &HostRuntime, case: Case, samples: u32, rounds: u32) -> io::Result<
     println!(rt; "{best} {sum} {ok}")
 }
 
-fn number(word: Option<String>) -> u64 {
-    match word {
-        Some(word) => word.as_str().parse::<u64>().unwrap_or(1),
-        None => 1,
-    }
-}
+""" + NUMBER + """\
 
 /// The words are what is done, a type, the sizes before the axis, on it and behind it, the groups, the samples and the calls of a sample.
 fn main(rt: HostRuntime) -> io::Result<()> {
@@ -295,7 +282,7 @@ def region_of(words):
     return region, labels.astype(numpy.int32), numpy.dtype("uint64" if words[1].startswith("u") else "int64")
 
 
-def calls_of(words):
+def ways_of(words):
     """The calls of NumPy that do what a case says, by their names: each returns its result."""
     import numpy
     region, labels, wide = region_of(words)
@@ -303,17 +290,26 @@ def calls_of(words):
     if words[0] == "scan":
         out = numpy.empty(region.shape, wide)
         return {"cumsum": lambda: numpy.cumsum(region, axis=1, dtype=wide, out=out)}
-    shape = (region.shape[0], groups, region.shape[2])
-    moved = numpy.moveaxis(region, 1, 0)
+    shape, rows = (region.shape[0], groups, region.shape[2]), numpy.moveaxis(region, 1, 0)
+    is_least = words[0] == "min"
+    join, kind, start = (numpy.minimum, region.dtype, numpy.iinfo(region.dtype).max) if is_least else (numpy.add, wide, 0)
 
     def by_at():
-        start = numpy.iinfo(region.dtype).max if words[0] == "min" else 0
-        out = numpy.full(shape, start, region.dtype if words[0] == "min" else wide)
-        (numpy.minimum if words[0] == "min" else numpy.add).at(numpy.moveaxis(out, 1, 0), labels, moved)
+        out = numpy.full(shape, start, kind)
+        join.at(numpy.moveaxis(out, 1, 0), labels, rows)
         return out
 
-    found = {"minimum.at" if words[0] == "min" else "add.at": by_at}
-    if words[0] == "sum" and shape[0] * shape[2] == 1:
+    def by_rows():
+        out = numpy.full(shape, start, kind)
+        made = numpy.moveaxis(out, 1, 0)
+        for label, row in zip(labels.tolist(), rows):
+            join(made[label], row, out=made[label])
+        return out
+
+    found = {"minimum.at" if is_least else "add.at": by_at}
+    if shape[0] * shape[2] > 1:
+        found[LOOP] = by_rows
+    elif not is_least:
         line = region.reshape(-1)
         found["bincount"] = lambda: numpy.bincount(labels, line, groups).astype(wide).reshape(shape)
     return found
@@ -322,73 +318,15 @@ def calls_of(words):
 def by_numpy(words):
     """Prints for each of NumPy's calls its name, the least nanoseconds of a sample, and the checksum of the results."""
     samples, rounds = map(int, words[6:8])
-    for name, work in calls_of(words).items():
-        best = None
-        for _ in range(samples):
-            start = time.perf_counter_ns()
-            for _ in range(rounds):
-                made = work()
-            spent = time.perf_counter_ns() - start
-            best = spent if best is None else min(best, spent)
-        print(name, best, checksum(made))
+    for name, call in ways_of(words).items():
+        print(name, *least_of(call, samples, rounds))
 
 
-def run_of(name, command, case):
-    """The nanoseconds of a call of the program and the checksum of its results."""
-    [(spent, told, went)] = lines_of([*command, *case.split()], name)
-    if went != "true":
-        raise SystemExit(f"{case}: {name} made no call")
-    return int(spent) / int(case.split()[7]), told
-
-
-def measured(case, runs, own, peer):
-    """Returns the nanoseconds of a call of each of NumPy's ways and of each program, run by run."""
-    others, spent = {}, {name: [] for name in own}
-    for _ in range(runs):
-        sums = set()
-        for way, taken, told in lines_of([*peer, *case.split()], "NumPy"):
-            others.setdefault(way, []).append(int(taken) / int(case.split()[7]))
-            # (floats of `bincount` may be rounded)
-            sums |= {told} if way != "bincount" else set()
-        for name, command in own.items():
-            taken, told = run_of(f"the program {name}", command, case)
-            spent[name].append(taken)
-            sums.add(told)
-        if len(sums) > 1:
-            raise SystemExit(f"{case}: the results differ")
-    return others, spent
-
-
-def main():
-    parser = argparse.ArgumentParser(description=__doc__, formatter_class=argparse.RawDescriptionHelpFormatter)
-    parser.add_argument("--keep", help="keep the program in this folder")
-    parser.add_argument("--runs", type=int, default=5)
-    parser.add_argument("--only", default="", help="only cases with these words in their name")
-    parser.add_argument("--cpu", nargs="*", default=["x86-64-v3"], help="the processors for which it is built")
-    parser.add_argument("--processor", type=int, default=3)
-    parser.add_argument("--python", default=sys.executable, help="a Python that has NumPy")
-    parser.add_argument("--program", nargs="*", default=[], help="programs that were built before")
-    parser.add_argument("--peer", nargs=argparse.REMAINDER, help=argparse.SUPPRESS)
-    words = parser.parse_args()
-    if words.peer:
-        return by_numpy(words.peer)
-    with tempfile.TemporaryDirectory(prefix="cubed-along-") as folder:
-        programs = {os.path.basename(path): os.path.abspath(path) for path in words.program}
-        if not programs:
-            programs = {cpu: program_in(words.keep or folder, NAME, NEEDS, SOURCES, cpu) for cpu in words.cpu}
-        ahead = pinned(words.processor)
-        own = {name: [*ahead, path] for name, path in programs.items()}
-        peer = [*ahead, words.python, os.path.abspath(__file__), "--peer"]
-        for case in CASES:
-            if words.only not in case:
-                continue
-            others, spent = measured(case, words.runs, own, peer)
-            line = f"{case:36}" + ", ".join(f" {way} {min(taken) / 1000:10.1f} us" for way, taken in others.items())
-            for name, taken in spent.items():
-                ratios = [f"{statistics.median(a / b for a, b in zip(taken, its)):.2f} of {way}" for way, its in others.items()]
-                line += f", {name} {min(taken) / 1000:10.1f} us **{', '.join(ratios)}**"
-            print(line, flush=True)
+def aim_of(case, way):
+    """Sums along the last axis have an aim of their own."""
+    return 0.7 if way == "cumsum" and case.split()[4] != "1" else AIMS[way]
 
 
 if __name__ == "__main__":
-    main()
+    # (floats of `bincount` may be rounded)
+    Calls(__file__, CASES, 7, by_numpy, ("bincount",), aim_of).command(__doc__, NAME, NEEDS, SOURCES)

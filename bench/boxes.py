@@ -195,15 +195,7 @@ fn pattern(alloc: Global, len: usize) -> io::Result<Vec<u8>>
     Ok(bytes)
 }
 
-/// The sum of each byte times its place, counted from 1, modulo 2^64.
-fn checksum(bytes: &[u8]) -> u64 {
-    let mut sum = 0u64;
-    for (place, byte) in bytes.iter().enumerate() {
-        let weight = (place as u64).wrapping_add(1);
-        sum = sum.wrapping_add(weight.wrapping_mul(u64::from(*byte)));
-    }
-    sum
-}
+""" + programs.CHECKSUM + """\
 
 /// The case of these elements and columns.
 fn make_case(t: Dtype, order: Endian, columns: u64) -> io::Result<Case>

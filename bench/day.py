@@ -1,47 +1,61 @@
 #!/usr/bin/env python3
 """Computes a day's work on packed int16 data with one worker, and with Dask by one thread over the same chunk files, in one run.
 
-  day.py [--program FILE] [--dir FOLDER].. [--runs N] [--workers N] [--fusion 1|2] [--python FILE] [--days N] [--only WORD..]
+  day.py [--program FILE] [--dir FOLDER].. [--runs N] [--workers N] [--fusion 1|2] [--c] [--python FILE] [--days N] [--only WORD..]
 
 The data are days by latitudes by longitudes, [2920,180,360] in chunks of [365,180,90], with a base of [180,360] and a climatology of two
 years. The works: how often each place exceeds its base, counted by int32 and by int8; a sum and a mean over the days without what is
 missing; the day of the greatest anomaly; a sum of squares; the difference from day to day; the days and their mirror; what is left without
 the climatology, repeated by `concat`; the days as series; all of it scaled and rounded down; what is left without the base; and the sums of
-the twelve months, by xarray's groupby over Dask's arrays. Each has an aim for each `--fusion`, or for 2 alone. The program syncs each file
-before its rename, Dask writes as zarr does, without a sync. Which comes first changes at each round, and what both store is compared byte
-by byte.
+the twelve months, by xarray's groupby over Dask's arrays. Two more are reductions over what is reshaped (xarray's `coarsen`): the sums of
+bins of 2 by 2 of maps of [512,512], and the greatest of each day of a year of maps from six hours to six hours. Each has an aim for each
+`--fusion`, or for 2 alone. The program syncs each file before its rename, Dask writes as zarr does, without a sync. Which comes first
+changes at each round, and what both store is compared byte by byte.
 
 It prints the least times and the greatest resident memory of both, the ratio of the times (Dask's is without Python's start), and last
 which of the aims were missed. Beside them stands the least time of a loop over the same files that computes nothing: it reads the days,
 writes as many bytes as the program stores, and reads those of the array before a reduction again. So much the files take by
 themselves, with one thread. It does so in memory, where there is such a folder, and on the disk.
+
+With --c it measures plain loops in C too (day.c, in this folder), which `cc` compiles for the processor that the program is built for. They
+go over the same chunk files chunk by chunk with one thread, and put each chunk of the result in place by a
+synced new file that is renamed, as the program does. What they store is compared byte by byte too. The ratio is that of the seconds of the
+processor, in the programs and in the system; its aims are for `--fusion 2`.
 """
 import argparse
 import itertools
 import json
+import math
 import os
 import shutil
+import subprocess
 import sys
 import tempfile
 import time
 
 sys.dont_write_bytecode = True
-from stored import GNU_TIME, PROGRAM, can_import, folders, link_as_version_2, metadata, put, same_as_version_2, see_that_it_is_built, timed
+from programs import processor  # programs.py, in this folder
+from stored import (GNU_TIME, HERE, PROGRAM, can_import, clear, folders, link_as_version_2, metadata, processor_seconds, put,
+                    see_that_all_is_the_same, see_that_it_is_built, store_by_dask, timed)
 from workers import Told, node
 
 DAYS_A_CHUNK, PLACES, PLACES_A_CHUNK = 365, [180, 360], [180, 90]
 DAYS, CHUNK, CLIMATE_DAYS, SERIES_SIDE = 2920, [DAYS_A_CHUNK, *PLACES_A_CHUNK], 730, 20
 MISSING, MONTHS = -32768, 12
-CUBED, DASK = "cubed", "Dask, one thread"
+# Maps that are put into bins, and maps of which several make a day.
+MAPS, MAP, MAPS_A_CHUNK = 160, [512, 512], 40
+HOURS, HOURS_A_CHUNK, HOURS_A_DAY = 1460, 20, 4
+CUBED, DASK, LOOPS = "cubed", "Dask, one thread", "plain loops in C"
 
 
 class Work:
     """What is computed of `t` and the other inputs: the nodes, the same by Dask's arrays of these names, and the aims: of how much of
-    Dask's time, by the number of `--fusion`. Also the words of the run, and how many days there must be, if not any."""
+    Dask's time, by the number of `--fusion`, and of how much of the processor's time of plain loops, by `--fusion 2`. Also the words of the
+    run, and how many days there must be, if not any."""
 
-    def __init__(self, nodes, by_dask, aim, fused_aim=None, names=("t", "base"), words=(), days=None):
+    def __init__(self, nodes, by_dask, aim, fused_aim=None, names=("t", "base"), words=(), days=None, loops_aim=2.0):
         self.nodes, self.by_dask, self.aims = nodes, by_dask, {1: aim, 2: fused_aim or aim}
-        self.names, self.words, self.days = names, list(words), days
+        self.names, self.words, self.days, self.loops_aim = names, list(words), days, loops_aim
 
     def expression(self):
         named = {argument for one in self.nodes for argument in one["args"]}
@@ -67,6 +81,16 @@ def masked_mean(t, base):
 def without_climate(t, climate):
     import dask.array
     return t - dask.array.concatenate([climate] * (t.shape[0] // CLIMATE_DAYS), axis=0)
+
+
+def in_bins():
+    """The shape of the maps with an axis of two behind each of theirs."""
+    return [MAPS, MAP[0] // 2, 2, MAP[1] // 2, 2]
+
+
+def in_days():
+    """The shape of the maps from hours to hours, day by day."""
+    return [HOURS // HOURS_A_DAY, HOURS_A_DAY, *PLACES]
 
 
 def monthly_sums(t, month):
@@ -95,22 +119,41 @@ WORKS = {
                            words=["--allowed-mem", "400000000"], days=DAYS),
     "scaled and rounded down": Work(
         [node("i", "astype", "t", dtype="int32"), node("m", "multiply", "i", 9), node("d", "floor_divide", "m", 5), node("y", "add", "d", 320)],
-        lambda t, base: (t.astype("int32") * 9) // 5 + 320, 0.6),
-    "anomalies": Work([node("y", "subtract", "t", "base")], lambda t, base: t - base, 0.7),
-    "monthly sums": Work([node("s", "groupby_sum", "t", "month", axis=0, groups=MONTHS)], monthly_sums, 0.25, names=("t", "month"))}
+        lambda t, base: (t.astype("int32") * 9) // 5 + 320, 0.6, loops_aim=None),
+    "anomalies": Work([node("y", "subtract", "t", "base")], lambda t, base: t - base, 0.7, loops_aim=None),
+    "monthly sums": Work([node("s", "groupby_sum", "t", "month", axis=0, groups=MONTHS)], monthly_sums, 0.25, names=("t", "month"), loops_aim=1.5),
+    "bins of 2 by 2": Work([node("r", "reshape", "maps", shape=in_bins()), node("y", "sum", "r", axes=[2, 4])], lambda maps: maps.reshape(in_bins()).sum(axis=(2, 4)),
+                           None, 0.5, ("maps",), loops_aim=None),
+    "greatest of each day": Work([node("r", "reshape", "hours", shape=in_days()), node("y", "max", "r", axes=[1])], lambda hours: hours.reshape(in_days()).max(axis=1),
+                                 None, 0.5, ("hours",), loops_aim=None)}
 
 
-def make_inputs(folder, days):
-    """Stores the days, some of whose numbers are missing, the base, the climatology, and the month of each day, and links them for a zarr
-    that reads version 2 alone."""
+def layouts(days):
+    """The shape and the chunk shape of each input."""
+    return {"t": ([days, *PLACES], CHUNK), "climate": ([CLIMATE_DAYS, *PLACES], CHUNK), "base": (PLACES, PLACES_A_CHUNK), "month": ([days], [DAYS_A_CHUNK]),
+            "maps": ([MAPS, *MAP], [MAPS_A_CHUNK, *MAP]), "hours": ([HOURS, *PLACES], [HOURS_A_CHUNK, *PLACES])}
+
+
+def numbers_of(name, chunk):
+    """The numbers of an input's chunk. Of the days some are missing."""
     import numpy
     rng = numpy.random.default_rng(1)
-    cells = rng.integers(-4000, 4000, CHUNK, dtype="int16")
-    cells[rng.random(cells.shape) < 0.01] = MISSING
-    arrays = {"t": ([days, *PLACES], CHUNK, cells), "climate": ([CLIMATE_DAYS, *PLACES], CHUNK, rng.integers(-500, 500, CHUNK, dtype="int16")),
-              "base": (PLACES, PLACES_A_CHUNK, rng.integers(-500, 500, PLACES_A_CHUNK, dtype="int16")),
-              "month": ([days], [DAYS_A_CHUNK], (numpy.arange(DAYS_A_CHUNK) * MONTHS // DAYS_A_CHUNK).astype("int16"))}
-    for name, (shape, chunk, numbers) in arrays.items():
+    if name == "month":
+        return (numpy.arange(DAYS_A_CHUNK) * MONTHS // DAYS_A_CHUNK).astype("int16")
+    if name in ("base", "climate"):
+        return rng.integers(-500, 500, chunk, dtype="int16")
+    numbers = rng.integers(-4000, 4000, chunk, dtype="int16")
+    if name == "t":
+        numbers[rng.random(chunk) < 0.01] = MISSING
+    return numbers
+
+
+def make_inputs(folder, days, names):
+    """Stores the inputs of these names, and links them for a zarr that reads version 2 alone."""
+    import numpy
+    for name in names:
+        shape, chunk = layouts(days)[name]
+        numbers = numbers_of(name, chunk)
         put(os.path.join(folder, name, "zarr.json"), metadata("int16", shape, chunk).encode())
         counts = [-(-length // part) for length, part in zip(shape, chunk)]
         for turn, place in enumerate(itertools.product(*map(range, counts))):
@@ -118,17 +161,24 @@ def make_inputs(folder, days):
         link_as_version_2(folder, name, "<i2", shape, chunk)
 
 
-def by_dask(folder, work):
-    """The peer: zarr opens and stores the arrays, Dask goes over the chunks with one thread. The seconds that this takes."""
-    import dask
-    import dask.array
-    import zarr
-    start = time.perf_counter()
-    result = work.by_dask(*(dask.array.from_zarr(zarr.open(os.path.join(folder, f"{name}_v2"), mode="r")) for name in work.names))
-    target = zarr.open(os.path.join(folder, "dask"), mode="w", shape=result.shape, chunks=result.chunksize, dtype=result.dtype, compressor=None)
-    with dask.config.set(scheduler="synchronous"):
-        dask.array.store(result, target, lock=False)
-    return time.perf_counter() - start
+def definitions():
+    """The sizes, as the words of a compiler."""
+    (rows, columns), columns_a_chunk = PLACES, PLACES_A_CHUNK[1]
+    sizes = {"DAYS_A_CHUNK": DAYS_A_CHUNK, "ROWS": rows, "COLUMNS": columns, "COLUMNS_A_CHUNK": columns_a_chunk, "CLIMATE_DAYS": CLIMATE_DAYS,
+             "SERIES_SIDE": SERIES_SIDE, "SERIES_STRIPS": math.lcm(columns_a_chunk, SERIES_SIDE) // columns_a_chunk, "MISSING": MISSING, "MONTHS": MONTHS,
+             "MAPS": MAPS, "MAPS_A_CHUNK": MAPS_A_CHUNK, "MAP_ROWS": MAP[0], "MAP_COLUMNS": MAP[1],
+             "HOURS": HOURS, "HOURS_A_CHUNK": HOURS_A_CHUNK, "HOURS_A_DAY": HOURS_A_DAY}
+    return [f"-D{name}={size}" for name, size in sizes.items()]
+
+
+def compiled_loops(folder):
+    """The path of the plain loops, which are compiled into this folder, or nothing where there is no compiler."""
+    if not shutil.which("cc"):
+        print("there is no cc, so no plain loops are measured")
+        return None
+    program = os.path.join(folder, "day")
+    subprocess.run(["cc", "-O3", f"-march={processor.best()}", *definitions(), os.path.join(HERE, "day.c"), "-o", program], check=True)
+    return program
 
 
 def stored_files(top):
@@ -137,16 +187,16 @@ def stored_files(top):
     return {path: os.path.getsize(path) for path in walked}
 
 
-def by_files_alone(folder):
-    """The seconds of a loop that reads the days, writes files as long as those that a run stored, and reads those of the plan again."""
-    days = stored_files(os.path.join(folder, "t", "c"))
+def by_files_alone(folder, name):
+    """The seconds of a loop that reads an input, writes files as long as those that a run stored, and reads those of the plan again."""
+    read = stored_files(os.path.join(folder, name, "c"))
     between = stored_files(os.path.join(folder, "_cubed"))
     written = {**between, **stored_files(os.path.join(folder, "y"))}
     made = os.path.join(folder, "files")
     os.mkdir(made)
-    room = memoryview(bytearray(b"\1") * max([*days.values(), *written.values()]))
+    room = memoryview(bytearray(b"\1") * max([*read.values(), *written.values()]))
     start = time.perf_counter()
-    for path, size in days.items():
+    for path, size in read.items():
         with open(path, "rb", buffering=0) as file:
             file.readinto(room[:size])
     for number, size in enumerate(written.values()):
@@ -164,46 +214,89 @@ def fusion_words(given):
     return ["--fusion", str(given.fusion)] if given.fusion > 1 else []
 
 
+# What each way stores.
+MADE = {CUBED: ("y", "_cubed"), DASK: ("dask",), LOOPS: ("loops",)}
+
+
 def measure(given, folder, name, work):
-    """Goes through both ways in turn, and compares what they store. Returns what was measured of each."""
+    """Goes through the ways in turn, and compares what they store. Returns what was measured of each."""
     ways = {CUBED: [given.program, folder, "run", "--workers", str(given.workers), *work.words, *fusion_words(given)]}
     if given.has_dask:
         ways[DASK] = [given.python, os.path.abspath(__file__), "--peer", name, folder]
+    if given.loops:
+        ways[LOOPS] = [given.loops, name, folder, str(given.days), "1"]
     told, alone = {way: Told() for way in ways}, []
     for number in range(given.runs):
         for way in list(ways)[::1 if number % 2 == 0 else -1]:
-            for made in ("dask",) if way == DASK else ("y", "_cubed"):
-                shutil.rmtree(os.path.join(folder, made), ignore_errors=True)
+            clear(folder, MADE[way])
             os.sync()
+            before = processor_seconds()
             told[way].add(timed(ways[way], work.expression()), way == DASK)
+            told[way].processor.append(processor_seconds() - before)
             if way == CUBED:
-                alone.append(by_files_alone(folder))
-            if all(os.path.isdir(os.path.join(folder, made)) for made in ("y", "dask")) and not same_as_version_2(folder, "y", "dask"):
-                raise SystemExit(f"{name}: the chunks of Dask and of the program differ")
+                alone.append(by_files_alone(folder, work.names[0]))
+        see_that_all_is_the_same(folder, name)
     return told, min(alone)
 
 
-def measure_in(given, parent):
-    """Measures all works in a folder. Returns the aims that were missed."""
-    print(f"in {parent}, load {os.getloadavg()[0]:.1f}:", flush=True)
+def ratios(given, work, told):
+    """Of each peer the ratio of the program to it, by the clock or by the processor, and the aim."""
+    found = {}
+    if DASK in told:
+        found[DASK] = min(told[CUBED].seconds) / min(told[DASK].seconds), work.aims[given.fusion]
+    if LOOPS in told:
+        found[LOOPS] = min(told[CUBED].processor) / min(told[LOOPS].processor), work.loops_aim if given.fusion == 2 else None
+    return found
+
+
+def tell(given, name, work, told, alone):
+    """Prints what was measured of a work. Returns the aims that were missed."""
+    print(f"  {name}: the files alone {alone:.3f} s")
     missed = []
-    with tempfile.TemporaryDirectory(dir=parent, prefix="cubed-bench-") as folder:
-        make_inputs(folder, given.days)
-        for name, work in WORKS.items():
-            if work.days not in (None, given.days) or given.only and not any(word in name for word in given.only):
-                continue
-            told, alone = measure(given, folder, name, work)
-            print(f"  {name}: the files alone {alone:.3f} s")
-            for way, one in told.items():
-                print(f"    {way}: {one.row()}", flush=True)
-            if DASK in told:
-                ratio = min(told[CUBED].seconds) / min(told[DASK].seconds)
-                aim = work.aims[given.fusion]
-                print(f"    ratio {ratio:.2f}{f' (aim {aim})' if aim else ''}, of the files alone {alone / min(told[DASK].seconds):.2f}", flush=True)
-                missed += [f"in {parent}: {name}: {ratio:.2f} for {aim}"] if aim and ratio > aim else []
-            for made in ("y", "_cubed", "dask"):
-                shutil.rmtree(os.path.join(folder, made), ignore_errors=True)
+    for way, one in told.items():
+        print(f"    {way}: {one.row()}")
+    for way, (ratio, aim) in ratios(given, work, told).items():
+        print(f"    ratio to {way} {ratio:.2f}{f' (aim {aim})' if aim else ''}", end="")
+        if way == DASK:
+            print(f", of the files alone {alone / min(told[way].seconds):.2f}", flush=True)
+        else:
+            print(f" ({min(told[CUBED].processor):.3f} and {min(told[way].processor):.3f} s of the processor), by the clock"
+                  f" {min(told[CUBED].seconds) / min(told[way].seconds):.2f}", flush=True)
+        missed += [f"{name}: {ratio:.2f} of {way} for {aim}"] if aim and ratio > aim else []
     return missed
+
+
+def table(given, found):
+    """Prints what was measured as the rows of a table."""
+    peers = list(dict.fromkeys(way for work, told in found.values() for way in ratios(given, work, told)))
+    print("  | work | cubed | " + " | ".join(f"ratio to {way} | aim" for way in peers) + " |")
+    print("  |---|---|" + "---|---|" * len(peers))
+    for name, (work, told) in found.items():
+        cells = [f"{ratio:.2f} | {aim or '-'}" for ratio, aim in ratios(given, work, told).values()]
+        print(f"  | {name} | {min(told[CUBED].seconds):.3f} s | " + " | ".join(cells) + " |", flush=True)
+
+
+def works_of(given):
+    """The works that are asked for."""
+    return {name: work for name, work in WORKS.items()
+            if work.days in (None, given.days) and (not given.only or any(word in name for word in given.only))}
+
+
+def measure_in(given, parent):
+    """Measures the works in a folder. Returns the aims that were missed."""
+    print(f"in {parent}, load {os.getloadavg()[0]:.1f}:", flush=True)
+    found, missed = {}, []
+    with tempfile.TemporaryDirectory(dir=parent, prefix="cubed-bench-") as folder:
+        works = works_of(given)
+        make_inputs(folder, given.days, sorted({name for work in works.values() for name in work.names}))
+        for name, work in works.items():
+            told, alone = measure(given, folder, name, work)
+            missed += tell(given, name, work, told, alone)
+            found[name] = work, told
+            clear(folder, itertools.chain(*MADE.values()))
+    if len(found) > 1:
+        table(given, found)
+    return [f"in {parent}: {one}" for one in missed]
 
 
 def main():
@@ -213,6 +306,7 @@ def main():
     words.add_argument("--runs", type=int, default=5, help="how many rounds")
     words.add_argument("--workers", type=int, default=1, help="how many workers the program has; Dask has one thread")
     words.add_argument("--fusion", type=int, choices=[1, 2], default=1, help="the version of the program's plans")
+    words.add_argument("--c", action="store_true", help="measure plain loops in C too")
     words.add_argument("--python", default=sys.executable, help="the Python that has NumPy, Dask, zarr and xarray")
     words.add_argument("--days", type=int, default=DAYS, help="how many days there are; some works are of 2920 alone")
     words.add_argument("--only", nargs="*", help="the works whose names have one of these words")
@@ -220,7 +314,7 @@ def main():
     given = words.parse_args()
     if given.peer:
         name, folder = given.peer
-        print(by_dask(folder, WORKS[name]))
+        print(store_by_dask(folder, WORKS[name].names, WORKS[name].by_dask))
         return
     given.program = os.path.abspath(given.program)
     see_that_it_is_built(given.program)
@@ -230,7 +324,9 @@ def main():
     if not os.access(GNU_TIME, os.X_OK):
         print(f"without {GNU_TIME} no memory is told")
     print(f"int16 {[given.days, *PLACES]} in chunks of {CHUNK}, --fusion {given.fusion}, the least of {given.runs} runs")
-    missed = [one for parent in given.dir or folders() for one in measure_in(given, parent)]
+    with tempfile.TemporaryDirectory(prefix="cubed-build-") as made:
+        given.loops = compiled_loops(made) if given.c else None
+        missed = [one for parent in given.dir or folders() for one in measure_in(given, parent)]
     print("missed: " + "; ".join(missed) if missed else "no aim was missed")
 
 

@@ -21,7 +21,7 @@ import tempfile
 import time
 
 sys.dont_write_bytecode = True
-from programs import checksum, filled, lines_of, pinned, program_in  # programs.py, in this folder
+from programs import CHECKSUM, FILL, ZEROS, checksum, filled, lines_of, pinned, program_in, words_of_calls  # programs.py, in this folder
 
 NAME, NEEDS = "kernels_bench", "cu_num cu_shape cu_op cu_kern arrayvec".split()
 
@@ -246,24 +246,9 @@ fn run(
     true
 }
 
-/// Bytes that follow one another without order.
-fn fill(bytes: &mut [u8]) {
-    let mut x = 0u32;
-    for byte in bytes.iter_mut() {
-        x = x.wrapping_add(2654435761);
-        *byte = (x >> 24) as u8;
-    }
-}
+""" + FILL + """\
 
-/// The sum of each byte times its place, counted from 1, modulo 2^64.
-fn checksum(bytes: &[u8]) -> u64 {
-    let mut sum = 0u64;
-    for (place, byte) in bytes.iter().enumerate() {
-        let weight = (place as u64).wrapping_add(1);
-        sum = sum.wrapping_add(weight.wrapping_mul(u64::from(*byte)));
-    }
-    sum
-}
+""" + CHECKSUM + """\
 
 fn steps_of(kind: Kind) -> usize
     ensures { result ≤ 32 }
@@ -273,15 +258,7 @@ fn steps_of(kind: Kind) -> usize
     }
 }
 
-/// That many bytes of 0.
-fn zeros(alloc: Global, len: usize) -> io::Result<Vec<u8>>
-    ensures { IfOk result (λ buf. length buf.items ≡ len) }
-{
-    match vec![in alloc; 0u8; len] {
-        Ok(bytes) => Ok(bytes),
-        Err(_) => Err(io::Error::from(io::ErrorKind::OutOfMemory)),
-    }
-}
+""" + ZEROS + """\
 
 /// Prints the kernel's name, the least nanoseconds of so many calls, their number, the elements and the checksum.
 fn timed(rt: &HostRuntime, name: &str, kind: Kind, shapes: Shapes, rounds: u32) -> io::Result<()> {
@@ -651,12 +628,7 @@ def by_program(command):
 
 
 def main():
-    parser = argparse.ArgumentParser(description=__doc__, formatter_class=argparse.RawDescriptionHelpFormatter)
-    parser.add_argument("--keep", help="keep the program in this folder")
-    parser.add_argument("--runs", type=int, default=5)
-    parser.add_argument("--only", default="", help="only cases with this word in their name")
-    parser.add_argument("--processor", type=int, default=3)
-    parser.add_argument("--python", default=sys.executable, help="a Python that has NumPy")
+    parser = words_of_calls(__doc__)
     parser.add_argument("--program", help="a program that was built before")
     parser.add_argument("--peer", action="store_true", help=argparse.SUPPRESS)
     words = parser.parse_args()

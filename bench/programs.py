@@ -1,16 +1,61 @@
 """The small programs that benchmarks write, prove and build, and how they are run and compared with NumPy."""
+import argparse
 import hashlib
 import os
 import shutil
+import statistics
 import subprocess
 import sys
 import tempfile
+import time
 
 from stored import HERE  # stored.py, in this folder, by which large buffers lie in huge pages
 
 TOP = os.path.join(HERE, "..")
 sys.path.append(os.path.join(TOP, "tools"))
 import processor  # processor.py, in tools
+
+# Functions of the programs.
+FILL = """\
+/// Bytes that follow one another without order.
+fn fill(bytes: &mut [u8]) {
+    let mut x = 0u32;
+    for byte in bytes.iter_mut() {
+        x = x.wrapping_add(2654435761);
+        *byte = (x >> 24) as u8;
+    }
+}
+"""
+CHECKSUM = """\
+/// The sum of each byte times its place, counted from 1, modulo 2^64.
+fn checksum(bytes: &[u8]) -> u64 {
+    let mut sum = 0u64;
+    for (place, byte) in bytes.iter().enumerate() {
+        let weight = (place as u64).wrapping_add(1);
+        sum = sum.wrapping_add(weight.wrapping_mul(u64::from(*byte)));
+    }
+    sum
+}
+"""
+ZEROS = """\
+/// That many bytes of 0.
+fn zeros(alloc: Global, len: usize) -> io::Result<Vec<u8>>
+    ensures { IfOk result (λ buf. length buf.items ≡ len) }
+{
+    match vec![in alloc; 0u8; len] {
+        Ok(bytes) => Ok(bytes),
+        Err(_) => Err(io::Error::from(io::ErrorKind::OutOfMemory)),
+    }
+}
+"""
+NUMBER = """\
+fn number(word: Option<String>) -> u64 {
+    match word {
+        Some(word) => word.as_str().parse::<u64>().unwrap_or(1),
+        None => 1,
+    }
+}
+"""
 
 
 def needed(names):
@@ -110,3 +155,91 @@ def checksum(made):
         part = seen[low:low + block.size]
         total += int((part * block[:part.size]).sum()) + low * int(part.sum(dtype=numpy.uint64))
     return total % (1 << 64)
+
+
+# Cases of calls, each by a program and by NumPy
+
+def words_of_calls(doc):
+    """The words of a script that measures calls beside NumPy's."""
+    parser = argparse.ArgumentParser(description=doc, formatter_class=argparse.RawDescriptionHelpFormatter)
+    parser.add_argument("--keep", help="keep the program in this folder")
+    parser.add_argument("--runs", type=int, default=5)
+    parser.add_argument("--only", default="", help="only cases with these words in their name")
+    parser.add_argument("--processor", type=int, default=3)
+    parser.add_argument("--python", default=sys.executable, help="a Python that has NumPy")
+    return parser
+
+
+def least_of(call, samples, rounds):
+    """The least nanoseconds of a sample of so many calls, and the checksum of the last one's result."""
+    best = None
+    for _ in range(samples):
+        start = time.perf_counter_ns()
+        for _ in range(rounds):
+            made = call()
+        spent = time.perf_counter_ns() - start
+        best = spent if best is None else min(best, spent)
+    return best, checksum(made)
+
+
+def run_in_turn(case, runs, own, peer, rounded):
+    """The nanoseconds of a sample of each of NumPy's ways and of each program, run by run. All but the ways in `rounded` give the same."""
+    others, spent = {}, {name: [] for name in own}
+    for _ in range(runs):
+        sums = set()
+        for way, taken, told in lines_of([*peer, *case.split()], "NumPy"):
+            others.setdefault(way, []).append(int(taken))
+            sums |= {told} if way not in rounded else set()
+        for name, command in own.items():
+            [(taken, told, went)] = lines_of([*command, *case.split()], f"the program {name}")
+            if went != "true":
+                raise SystemExit(f"{case}: {name} made no call")
+            spent[name].append(int(taken))
+            sums.add(told)
+        if len(sums) > 1:
+            raise SystemExit(f"{case}: the results differ")
+    return others, spent
+
+
+class Calls:
+    """The cases of a script, each a line of words: `calls_at` is the place of the word that says how many calls a sample has. The program
+    prints the least nanoseconds of a sample, a checksum and whether it made the calls; `by_numpy` prints for each way its name, the same
+    two, and the ways in `rounded` may give other results. `aim_of` gives of a case and a way the ratio that is aimed at, or none."""
+
+    def __init__(self, script, cases, calls_at, by_numpy, rounded=(), aim_of=lambda case, way: None):
+        self.script, self.cases, self.calls_at = os.path.abspath(script), cases, calls_at
+        self.by_numpy, self.rounded, self.aim_of = by_numpy, rounded, aim_of
+
+    def command(self, doc, name, needs, sources):
+        """The command of the script, whose program has this name, stands on these crates and has these sources."""
+        parser = words_of_calls(doc)
+        parser.add_argument("--cpu", nargs="*", default=["x86-64-v3"], help="the processors for which it is built")
+        parser.add_argument("--program", nargs="*", default=[], help="programs that were built before")
+        parser.add_argument("--peer", nargs=argparse.REMAINDER, help=argparse.SUPPRESS)
+        words = parser.parse_args()
+        if words.peer:
+            self.by_numpy(words.peer)
+            return
+        with tempfile.TemporaryDirectory(prefix="cubed-program-") as folder:
+            programs = {os.path.basename(path): os.path.abspath(path) for path in words.program}
+            if not programs:
+                programs = {cpu: program_in(words.keep or folder, name, needs, sources, cpu) for cpu in words.cpu}
+            missed = [one for case in self.cases if words.only in case for one in self.measure(case, words, programs)]
+        print("missed: " + "; ".join(missed) if missed else "no aim was missed")
+
+    def measure(self, case, words, programs):
+        """Prints what a case takes. Returns which aims were missed."""
+        ahead, calls = pinned(words.processor), int(case.split()[self.calls_at])
+        own = {name: [*ahead, path] for name, path in programs.items()}
+        others, spent = run_in_turn(case, words.runs, own, [*ahead, words.python, self.script, "--peer"], self.rounded)
+        line = f"{case:36}" + ", ".join(f" {way} {min(taken) / calls / 1000:10.1f} us" for way, taken in others.items())
+        missed = []
+        for name, taken in spent.items():
+            told = []
+            for way, its in others.items():
+                ratio, aim = statistics.median(a / b for a, b in zip(taken, its)), self.aim_of(case, way)
+                told.append(f"{ratio:.2f} of {way}{f' (aim {aim})' if aim else ''}")
+                missed += [f"{case}, {name}: {ratio:.2f} of {way} for {aim}"] if aim and ratio > aim else []
+            line += f", {name} {min(taken) / calls / 1000:10.1f} us **{', '.join(told)}**"
+        print(line, flush=True)
+        return missed

@@ -14,15 +14,10 @@ The program that calls `pair_fold` is written into a copy of the crates that it 
 processor that is named (x86-64-v2, x86-64-v3), which takes some minutes. With --keep it is kept in that folder, by the sum of its
 sources, and a later run over the same sources builds nothing.
 """
-import argparse
-import os
-import statistics
 import sys
-import tempfile
-import time
 
 sys.dont_write_bytecode = True
-from programs import checksum, filled, lines_of, pinned, program_in  # programs.py, in this folder
+from programs import CHECKSUM, FILL, NUMBER, ZEROS, Calls, filled, least_of  # programs.py, in this folder
 
 NAME, NEEDS = "searches_bench", "cu_num cu_shape cu_reduce cu_grid cu_pairs".split()
 
@@ -145,14 +140,7 @@ fn call(case: Case, input: &[u8], values: &mut [u8], places: &mut [u8]) -> bool 
     true
 }
 
-/// Bytes that follow one another without order.
-fn fill(bytes: &mut [u8]) {
-    let mut x = 0u32;
-    for byte in bytes.iter_mut() {
-        x = x.wrapping_add(2654435761);
-        *byte = (x >> 24) as u8;
-    }
-}
+""" + FILL + """\
 
 /// Numbers that rise, as elements of this many bytes.
 fn fill_rising(bytes: &mut [u8], size: usize) {
@@ -168,25 +156,9 @@ fn fill_rising(bytes: &mut [u8], size: usize) {
     }
 }
 
-/// The sum of each byte times its place, counted from 1, modulo 2^64.
-fn checksum(bytes: &[u8]) -> u64 {
-    let mut sum = 0u64;
-    for (place, byte) in bytes.iter().enumerate() {
-        let weight = (place as u64).wrapping_add(1);
-        sum = sum.wrapping_add(weight.wrapping_mul(u64::from(*byte)));
-    }
-    sum
-}
+""" + CHECKSUM + """\
 
-/// That many bytes of 0.
-fn zeros(alloc: Global, len: usize) -> io::Result<Vec<u8>>
-    ensures { IfOk result (λ buf. length buf.items ≡ len) }
-{
-    match vec![in alloc; 0u8; len] {
-        Ok(bytes) => Ok(bytes),
-        Err(_) => Err(io::Error::from(io::ErrorKind::OutOfMemory)),
-    }
-}
+""" + ZEROS + """\
 
 fn type_named(name: &str) -> Dtype {
     match name {
@@ -243,12 +215,7 @@ fn timed(
     println!(rt; "{best} {sum} {ok}")
 }
 
-fn number(word: Option<String>) -> u64 {
-    match word {
-        Some(word) => word.as_str().parse::<u64>().unwrap_or(1),
-        None => 1,
-    }
-}
+""" + NUMBER + """\
 
 /// The words are a type, the rows, the columns, the axis, the samples, the calls of a sample, and how the bytes are.
 fn main(rt: HostRuntime) -> io::Result<()> {
@@ -315,64 +282,14 @@ def sources():
 
 
 def by_numpy(words):
-    """The least nanoseconds of a sample and the checksum of the places, in elements as the program's `fill` and `fill_rising` write them."""
+    """Prints the least nanoseconds of a sample and the checksum of the places, in elements as the program's `fill` and `fill_rising` write them."""
     import numpy
     dtype, kind = words[0], words[6]
     rows, columns, axis, samples, rounds = map(int, words[1:6])
     made = numpy.arange(rows * columns, dtype=dtype) if kind == "rising" else filled(dtype, rows * columns)
     region = made.reshape(rows, columns)
-    best = None
-    for _ in range(samples):
-        start = time.perf_counter_ns()
-        for _ in range(rounds):
-            places = region.argmax(axis=axis)
-        spent = time.perf_counter_ns() - start
-        best = spent if best is None else min(best, spent)
-    print(best, checksum(places.astype(numpy.int64)))
-
-
-def measured(name, command, case):
-    """The nanoseconds of a call and the checksum of the places."""
-    [(spent, told, *_)] = lines_of([*command, *case.split()], name)
-    return int(spent) / int(case.split()[5]), told
-
-
-def main():
-    parser = argparse.ArgumentParser(description=__doc__, formatter_class=argparse.RawDescriptionHelpFormatter)
-    parser.add_argument("--keep", help="keep the program in this folder")
-    parser.add_argument("--runs", type=int, default=5)
-    parser.add_argument("--only", default="", help="only cases with these words in their name")
-    parser.add_argument("--cpu", nargs="*", default=["x86-64-v3"], help="the processors for which it is built")
-    parser.add_argument("--processor", type=int, default=3)
-    parser.add_argument("--python", default=sys.executable, help="a Python that has NumPy")
-    parser.add_argument("--program", nargs="*", default=[], help="programs that were built before")
-    parser.add_argument("--peer", nargs=argparse.REMAINDER, help=argparse.SUPPRESS)
-    words = parser.parse_args()
-    if words.peer:
-        return by_numpy(words.peer)
-    with tempfile.TemporaryDirectory(prefix="cubed-searches-") as folder:
-        programs = {os.path.basename(path): os.path.abspath(path) for path in words.program}
-        if not programs:
-            programs = {cpu: program_in(words.keep or folder, NAME, NEEDS, sources(), cpu) for cpu in words.cpu}
-        ahead = pinned(words.processor)
-        peer = [*ahead, words.python, os.path.abspath(__file__), "--peer"]
-        for case in CASES:
-            if words.only not in case:
-                continue
-            others, own = [], {name: [] for name in programs}
-            for _ in range(words.runs):
-                spent, told = measured("NumPy", peer, case)
-                others.append(spent)
-                for name, path in programs.items():
-                    spent, sum_of_places = measured(f"the program {name}", [*ahead, path], case)
-                    if sum_of_places != told:
-                        raise SystemExit(f"{case}: the places differ")
-                    own[name].append(spent)
-            line = f"{case:34} NumPy {min(others) / 1000:8.1f} us"
-            for name, spent in own.items():
-                line += f", {name} {min(spent) / 1000:8.1f} us **{statistics.median(a / b for a, b in zip(spent, others)):.2f}**"
-            print(line, flush=True)
+    print("argmax", *least_of(lambda: region.argmax(axis=axis).astype(numpy.int64, copy=False), samples, rounds))
 
 
 if __name__ == "__main__":
-    main()
+    Calls(__file__, CASES, 5, by_numpy).command(__doc__, NAME, NEEDS, sources())

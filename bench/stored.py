@@ -1,6 +1,8 @@
 """What the measures share: commands that are timed, arrays that are stored chunk by chunk, and outputs that are compared."""
 import json
 import os
+import resource
+import shutil
 import subprocess
 import sys
 import tempfile
@@ -46,12 +48,28 @@ def timed(words, text=""):
         return taken, ran.stdout.strip(), told.read().split()
 
 
-def tell(name, runs):
-    """Prints the least times of the program and of NumPy, which tells its own without its start, and the program's resident memory."""
+def processor_seconds():
+    """The seconds of the processor, in programs and in the system, of all commands that this Python has run."""
+    spent = resource.getrusage(resource.RUSAGE_CHILDREN)
+    return spent.ru_utime + spent.ru_stime
+
+
+PEERS = {"numpy": "NumPy", "dask": "Dask"}
+
+
+def tell(name, runs, aims=None):
+    """Prints the least times of the program and of its peers, which tell their own without Python's start, and the program's resident memory.
+    Returns which of these aims of the ratios were missed."""
     best, _, told = min(runs["cubed"])
-    inside = min(float(said) for _, said, _ in runs["numpy"])
     memory = f", resident {int(told[2]) / 1024:.1f} MiB" if told else ""
-    print(f"{name}: cubed {best:.3f} s{memory}, NumPy {inside:.3f} s without its start, ratio {best / inside:.2f}", flush=True)
+    line, missed = f"{name}: cubed {best:.3f} s{memory}", []
+    for peer in [peer for peer in PEERS if peer in runs]:
+        inside = min(float(said) for _, said, _ in runs[peer])
+        ratio, aim = best / inside, (aims or {}).get(peer)
+        line += f", {PEERS[peer]} {inside:.3f} s without its start, ratio {ratio:.2f}{f' (aim {aim})' if aim else ''}"
+        missed += [f"{name} beside {PEERS[peer]}: {ratio:.2f} for {aim}"] if aim and ratio > aim else []
+    print(line, flush=True)
+    return missed
 
 
 # Arrays of chunk files
@@ -99,11 +117,48 @@ def link_as_version_2(folder, name, dtype, shape, chunk):
     return top
 
 
-def same_as_version_2(folder, name, other):
-    """Whether an array of version 3 and a folder of version 2 have the same chunks."""
+def same_files(folder, name, other, place_in_other):
+    """Whether each chunk of an array is the same as the file of the other's that stands at its place there."""
     places = places_in(folder, name)
     for place in places:
-        with open(os.path.join(folder, name, "c", place), "rb") as left, open(os.path.join(folder, other, place.replace("/", ".")), "rb") as right:
+        with open(os.path.join(folder, name, "c", place), "rb") as left, open(os.path.join(folder, other, place_in_other(place)), "rb") as right:
             if left.read() != right.read():
                 return False
     return bool(places)
+
+
+def same_as_version_2(folder, name, other):
+    """Whether an array of version 3 and a folder of version 2 have the same chunks."""
+    return same_files(folder, name, other, lambda place: place.replace("/", "."))
+
+
+def same_chunks(folder, name, other):
+    """Whether two arrays of version 3 have the same chunks."""
+    return places_in(folder, name) == places_in(folder, other) and same_files(folder, name, other, lambda place: os.path.join("c", place))
+
+
+# The peers of a day's work
+
+def clear(folder, names):
+    for name in names:
+        shutil.rmtree(os.path.join(folder, name), ignore_errors=True)
+
+
+def see_that_all_is_the_same(folder, name):
+    """Compares what the others have stored so far with what the program has."""
+    for made, peer, is_same in (("dask", "Dask", same_as_version_2), ("loops", "the plain loops", same_chunks)):
+        if all(os.path.isdir(os.path.join(folder, one)) for one in ("y", made)) and not is_same(folder, "y", made):
+            raise SystemExit(f"{name}: the chunks of {peer} and of the program differ")
+
+
+def store_by_dask(folder, names, function, threads=1):
+    """The peer: zarr opens and stores the arrays, Dask goes over the chunks with so many threads. The seconds that this takes."""
+    import dask
+    import dask.array
+    import zarr
+    start = time.perf_counter()
+    result = function(*(dask.array.from_zarr(zarr.open(os.path.join(folder, f"{name}_v2"), mode="r")) for name in names))
+    target = zarr.open(os.path.join(folder, "dask"), mode="w", shape=result.shape, chunks=result.chunksize, dtype=result.dtype, compressor=None)
+    with dask.config.set(scheduler="threads" if threads > 1 else "synchronous", num_workers=threads):
+        dask.array.store(result, target, lock=False)
+    return time.perf_counter() - start

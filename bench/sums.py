@@ -19,8 +19,8 @@ import time
 
 import numpy
 
-from stored import PROGRAM, metadata, store, tell, timed
-from views import same_files
+sys.dont_write_bytecode = True
+from stored import PROGRAM, metadata, same_chunks, store, tell, timed
 
 SIDE, CHUNKS, BLOCK, BLOCKS = 1024, 8, 128, 4
 SUMS = {"sum over axis 0": ("sum", {"axes": [0]}), "sum over axis 1": ("sum", {"axes": [1]}), "sum of all": ("sum", {}),
@@ -123,7 +123,7 @@ def measure(program, folder, name, rounds, python):
         with open(rest, "rb") as left, open(os.path.join(folder, "y", "c"), "rb") as right:
             same = left.read() == right.read()
     else:
-        same = same_files(folder)
+        same = same_chunks(folder, "y", "numpy")
     if not same:
         raise SystemExit(f"{name}: the chunks of NumPy and of the program differ")
     tell(name, runs)

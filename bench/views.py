@@ -1,34 +1,57 @@
 #!/usr/bin/env python3
 """Computes views of int32 arrays of 256 MiB in chunks of 4 MiB with the program and with NumPy chunk by chunk.
 
-  views.py [--program FILE] [--dir FOLDER] [--runs N] [--python FILE] [--mebibytes N] [--only NAME..]
+  views.py [--program FILE] [--dir FOLDER] [--runs N] [--python FILE] [--mebibytes N] [--only WORD..]
 
 Each view is computed by one operation: a slice with step 1, a concat of two halves, a transposition, a flip, a triangle, a roll, and
 arrays that are made, which are compared with storing such chunks alone. For each chunk of the result NumPy reads each chunk of which it
-needs an element, as the program does. All put each chunk in place by a synced new file that is renamed. Which comes first changes at each
-round, and the least time of each is kept; the outputs are compared byte by byte. It prints times and ratios: in the folder in memory
-where there is one, since nothing else than the view is to be measured.
+needs an element, as the program does.
+
+Then come views along strides, of chunks of [1024,1024], [1M,4], [1M,1], six axes of 12, and maps of [512,512]: an axis of size 1 put in
+behind the last or taken out, other shapes, axes in another order, all axes flipped, and axes stretched. There NumPy copies each chunk once
+into a buffer, and Dask, where --python has it, goes over the same chunk files with one thread.
+
+NumPy and the program put each chunk in place by a synced new file that is renamed; Dask writes as zarr does, without a sync. Which comes
+first changes at each round, and the least time of each is kept; the outputs are compared byte by byte. It prints times and ratios, and
+last which of the aims were missed: in the folder in memory where there is one, since nothing else than the view is to be measured.
 """
 import argparse
 import itertools
 import json
+import math
 import os
-import shutil
 import sys
 import tempfile
 import time
 
 import numpy
 
-from stored import PROGRAM, metadata, store, tell, timed
+sys.dont_write_bytecode = True
+from stored import (MIB, PROGRAM, can_import, clear, link_as_version_2, metadata, put, same_as_version_2, same_chunks, see_that_it_is_built, store,
+                    store_by_dask, tell, timed)
 
+# The views along strides: at most so much of the time of the peers.
+AIMS = {"numpy": 1.2, "dask": 1.0}
+SIX = [12] * 6
 SIDE = 1024
 CHUNK = SIDE * SIDE
-CHUNK_BYTES = 4 * CHUNK
+
+
+def read_chunk(folder, name, place, room):
+    with open(os.path.join(folder, name, "c", *map(str, place)), "rb", buffering=0) as file:
+        if file.readinto(room) != room.nbytes:
+            raise SystemExit("a chunk was cut short")
+    return room
+
+
+def put_chunk(folder, place, cells):
+    path = os.path.join(folder, "numpy", "c", *map(str, place))
+    os.makedirs(os.path.dirname(path), exist_ok=True)
+    store(path, cells, True)
 
 
 class Peer:
-    """NumPy over the stored chunks of the arrays, whose keys are `c.I` and `c.I.J`."""
+    """NumPy over the stored chunks of the arrays."""
 
     def __init__(self, folder, chunks):
         self.folder, self.chunks = folder, chunks
@@ -37,15 +60,10 @@ class Peer:
         self.made = numpy.empty(CHUNK, numpy.int32)
 
     def read(self, name, *place):
-        with open(os.path.join(self.folder, name, "c." + ".".join(map(str, place))), "rb", buffering=0) as file:
-            if file.readinto(self.room) != CHUNK_BYTES:
-                raise SystemExit("a chunk was cut short")
-        return self.room
+        return read_chunk(self.folder, name, place, self.room)
 
     def put(self, place, cells):
-        path = os.path.join(self.folder, "numpy", "c", *map(str, place))
-        os.makedirs(os.path.dirname(path), exist_ok=True)
-        store(path, numpy.ascontiguousarray(cells), True)
+        put_chunk(self.folder, place, numpy.ascontiguousarray(cells))
 
     def moved(self, parts):
         """Stores an array of one axis. `parts` gives of each chunk of it the name and chunk of each source that it needs, its first
@@ -120,66 +138,173 @@ def expressions(chunks):
             "arange": viewed("arange", start=0, stop=total, step=1, dtype="int32", chunk=[CHUNK])}
 
 
+def make_array(folder, name, shape, chunk):
+    """Stores an array of numbers that differ from chunk to chunk, and links it for a zarr that reads version 2 alone."""
+    cells = numpy.random.default_rng(1).integers(-2**31, 2**31, math.prod(chunk), dtype="int32")
+    put(os.path.join(folder, name, "zarr.json"), metadata("int32", shape, chunk).encode())
+    for number, place in enumerate(itertools.product(*[range(size // sides) for size, sides in zip(shape, chunk)])):
+        put(os.path.join(folder, name, "c", *map(str, place)), numpy.roll(cells, number * 4099).tobytes())
+    link_as_version_2(folder, name, "<i4", shape, chunk)
+
+
 def make_inputs(folder, chunks):
-    side = int(chunks**0.5)
-    rng = numpy.random.default_rng(1)
-    whole = rng.integers(-2**31, 2**31, CHUNK, dtype="int32")
-    shapes = {"v": ([chunks * CHUNK], [CHUNK]), "left": ([chunks // 2 * CHUNK], [CHUNK]), "right": ([chunks // 2 * CHUNK], [CHUNK]),
-              "x": ([side * SIDE] * 2, [SIDE] * 2)}
-    for name, (shape, chunk) in shapes.items():
-        os.makedirs(os.path.join(folder, name))
-        with open(os.path.join(folder, name, "zarr.json"), "w") as file:
-            file.write(metadata("int32", shape, chunk, "."))
-        for number, place in enumerate(itertools.product(*[range(size // sides) for size, sides in zip(shape, chunk)])):
-            with open(os.path.join(folder, name, "c." + ".".join(map(str, place))), "wb") as file:
-                file.write(numpy.roll(whole, number * 4099).tobytes())
+    side, half = int(chunks**0.5), chunks // 2 * CHUNK
+    for name, shape in {"v": [chunks * CHUNK], "left": [half], "right": [half]}.items():
+        make_array(folder, name, shape, [CHUNK])
+    make_array(folder, "x", [side * SIDE] * 2, [SIDE] * 2)
 
 
-def same_files(folder):
-    """Whether both outputs have the same chunks."""
-    top = os.path.join(folder, "y", "c")
-    files = [os.path.relpath(os.path.join(path, file), top) for path, _, names in os.walk(top) for file in names]
-    for file in files:
-        with open(os.path.join(top, file), "rb") as left, open(os.path.join(folder, "numpy", "c", file), "rb") as right:
-            if left.read() != right.read():
-                return False
-    return bool(files)
+# Views along strides
+
+class Strided:
+    """A view of `s`, whose chunks of this shape stand along one axis (`along`): the operator, its members for so many chunks, the view of a
+    chunk by NumPy and of the whole by Dask. The result's chunks stand along an axis too (`axis`), and the other way if it is turned."""
+
+    def __init__(self, chunk, op, members, of_chunk, by_dask, along=0, axis=0, is_turned=False):
+        self.chunk, self.op, self.members, self.of_chunk, self.by_dask = chunk, op, members, of_chunk, by_dask
+        self.along, self.axis, self.is_turned = along, axis, is_turned
+
+    def count(self, mebibytes):
+        """How many chunks of the result have so many MiB."""
+        return max(1, mebibytes * MIB // 4 // self.of_chunk(numpy.empty(self.chunk, "int32")).size)
+
+    def make_input(self, folder, count):
+        make_array(folder, "s", [size * count if axis == self.along else size for axis, size in enumerate(self.chunk)], self.chunk)
+
+    def expression(self, count):
+        return viewed(self.op, "s", **self.members(count))
+
+    def by_numpy(self, folder, count):
+        """The peer: each chunk is read, copied along the view's strides, and stored. The seconds that this takes."""
+        start = time.perf_counter()
+        room = numpy.empty(self.chunk, "int32")
+        view = self.of_chunk(room)
+        made = numpy.empty(view.shape, "int32")
+        for number in range(count):
+            read_chunk(folder, "s", self.at(self.along, len(self.chunk), number), room)
+            numpy.copyto(made, view)
+            put_chunk(folder, self.at(self.axis, view.ndim, count - 1 - number if self.is_turned else number), made)
+        return time.perf_counter() - start
+
+    def at(self, axis, rank, number):
+        return [number if place == axis else 0 for place in range(rank)]
 
 
-def measure(program, folder, name, text, rounds, python, chunks):
-    commands = {"cubed": [program, folder, "run"], "numpy": [python, os.path.abspath(__file__), "--peer", name, folder, str(chunks)]}
+def stretched(axis, count):
+    """Six axes of 12, of which one is that of the chunks."""
+    return [12 * count if place == axis else 12 for place in range(6)]
+
+
+def broadcast_by_dask(axis):
+    def view(s):
+        import dask.array
+        return dask.array.broadcast_to(s, stretched(axis, s.shape[axis] // 12))
+    return view
+
+
+def moved(chunk, op, members, view, **places):
+    """A view whose members say nothing of how many chunks there are, and that is the same of a chunk as of the whole."""
+    return Strided(chunk, op, lambda count: members, view, view, **places)
+
+
+def broadcast(chunk, axis):
+    return Strided(chunk, "broadcast_to", lambda count: {"shape": stretched(axis, count), "chunk": SIX}, lambda s: numpy.broadcast_to(s, SIX),
+                   broadcast_by_dask(axis), along=axis, axis=axis)
+
+
+STRIDED = {
+    "expand_dims, [1M,4]": moved([MIB, 4], "expand_dims", {"axis": -1}, lambda s: s[..., None]),
+    "expand_dims, [1024,1024]": moved([SIDE, SIDE], "expand_dims", {"axis": -1}, lambda s: s[..., None]),
+    "squeeze, [1M,1]": moved([MIB, 1], "squeeze", {"axes": [1]}, lambda s: s[:, 0]),
+    "reshape, [1M,4] to one axis": moved([MIB, 4], "reshape", {"shape": [-1]}, lambda s: s.reshape(-1)),
+    "reshape, six axes to two": moved(SIX, "reshape", {"shape": [-1, 1728]}, lambda s: s.reshape((-1, 1728))),
+    "reshape, bins of 2 by 2": moved([4, 512, 512], "reshape", {"shape": [-1, 256, 2, 256, 2]}, lambda s: s.reshape((-1, 256, 2, 256, 2))),
+    "permute_dims, six axes reversed": moved(SIX, "permute_dims", {"axes": [5, 4, 3, 2, 1, 0]}, lambda s: s.transpose((5, 4, 3, 2, 1, 0)), axis=5),
+    "permute_dims, pairs of axes": moved(SIX, "permute_dims", {"axes": [1, 0, 3, 2, 5, 4]}, lambda s: s.transpose((1, 0, 3, 2, 5, 4)), axis=1),
+    "flip of all axes, [1024,1024]": moved([SIDE, SIDE], "flip", {}, lambda s: s[::-1, ::-1], is_turned=True),
+    "flip of all axes, six": moved(SIX, "flip", {}, lambda s: s[(slice(None, None, -1),) * 6], is_turned=True),
+    "broadcast_to, [12,1] three times": broadcast([12, 1] * 3, 0),
+    "broadcast_to, [1,12] three times": broadcast([1, 12] * 3, 1)}
+
+
+# What each way stores.
+MADE = {"cubed": ("y", "_cubed"), "numpy": ("numpy",), "dask": ("dask",)}
+
+
+def measured(commands, folder, text, rounds):
+    """Runs the ways in turn over an expression. Returns what was measured of each."""
     runs = {peer: [] for peer in commands}
     for number in range(rounds):
         for peer in list(commands)[::1 if number % 2 == 0 else -1]:
-            for made in ("y", "_cubed") if peer == "cubed" else ("numpy",):
-                shutil.rmtree(os.path.join(folder, made), ignore_errors=True)
+            clear(folder, MADE[peer])
             runs[peer].append(timed(commands[peer], text))
-    if not same_files(folder):
+    return runs
+
+
+def peer_of(given, peer, name, folder, count):
+    return [given.python, os.path.abspath(__file__), "--peer", peer, name, folder, str(count)]
+
+
+def measure(given, folder, name, text, chunks):
+    commands = {"cubed": [given.program, folder, "run"], "numpy": peer_of(given, "numpy", name, folder, chunks)}
+    runs = measured(commands, folder, text, given.runs)
+    if not same_chunks(folder, "y", "numpy"):
         raise SystemExit(f"{name}: the chunks of NumPy and of the program differ")
-    tell(name, runs)
+    return tell(name, runs)
+
+
+def measure_strided(given, name, view):
+    """Measures a view along strides in a folder of its own. Returns the aims that were missed."""
+    count = view.count(given.mebibytes)
+    with tempfile.TemporaryDirectory(dir=given.dir, prefix="cubed-bench-") as folder:
+        view.make_input(folder, count)
+        peers = ["numpy", *(["dask"] if given.has_dask else [])]
+        commands = {"cubed": [given.program, folder, "run"], **{peer: peer_of(given, peer, name, folder, count) for peer in peers}}
+        runs = measured(commands, folder, view.expression(count), given.runs)
+        if not same_chunks(folder, "y", "numpy") or given.has_dask and not same_as_version_2(folder, "y", "dask"):
+            raise SystemExit(f"{name}: the chunks of the peers and of the program differ")
+    return tell(name, runs, AIMS)
+
+
+def run_peer(peer, name, folder, count):
+    """What a peer does; the seconds that it takes."""
+    if peer == "dask":
+        return store_by_dask(folder, ["s"], STRIDED[name].by_dask)
+    if name in STRIDED:
+        return STRIDED[name].by_numpy(folder, count)
+    start = time.perf_counter()
+    getattr(Peer(folder, count), name)()
+    return time.perf_counter() - start
 
 
 def main():
-    if "--peer" in sys.argv:
-        name, folder, chunks = sys.argv[-3:]
-        start = time.perf_counter()
-        getattr(Peer(folder, int(chunks)), name)()
-        print(time.perf_counter() - start)
-        return
     words = argparse.ArgumentParser(description=__doc__, formatter_class=argparse.RawDescriptionHelpFormatter)
     words.add_argument("--program", default=PROGRAM)
     words.add_argument("--dir", default="/dev/shm" if os.path.isdir("/dev/shm") else tempfile.gettempdir())
     words.add_argument("--runs", type=int, default=5)
     words.add_argument("--python", default=sys.executable)
     words.add_argument("--mebibytes", type=int, default=256, choices=[16, 64, 256])
-    words.add_argument("--only", nargs="*")
+    words.add_argument("--only", nargs="*", help="the views whose names have one of these words")
+    words.add_argument("--peer", nargs=4, help=argparse.SUPPRESS)
     given = words.parse_args()
-    chunks = given.mebibytes // 4
+    if given.peer:
+        peer, name, folder, count = given.peer
+        print(run_peer(peer, name, folder, int(count)))
+        return
+    given.program = os.path.abspath(given.program)
+    see_that_it_is_built(given.program)
+    given.has_dask = can_import(given.python, "dask.array", "zarr")
+    wanted = lambda name: not given.only or any(word in name for word in given.only)
+    chunks, missed = given.mebibytes // 4, []
     with tempfile.TemporaryDirectory(dir=given.dir, prefix="cubed-bench-") as folder:
-        make_inputs(folder, chunks)
-        for name, text in expressions(chunks).items():
-            if not given.only or name in given.only:
-                measure(os.path.abspath(given.program), folder, name, text, given.runs, given.python, chunks)
+        texts = {name: text for name, text in expressions(chunks).items() if wanted(name)}
+        if texts:
+            make_inputs(folder, chunks)
+        for name, text in texts.items():
+            missed += measure(given, folder, name, text, chunks)
+    for name, view in STRIDED.items():
+        missed += measure_strided(given, name, view) if wanted(name) else []
+    print("missed: " + "; ".join(missed) if missed else "no aim was missed")
 
 
 if __name__ == "__main__":

@@ -1,34 +1,38 @@
 #!/usr/bin/env python3
 """Computes with one worker, with several workers, and with Dask by as many threads over the same chunk files, in one run.
 
-  workers.py [--program FILE] [--dir FOLDER].. [--runs N] [--workers N] [--fusion 1|2] [--python FILE] [--mebibytes N] [--only WORD..]
+  workers.py [--program FILE] [--dir FOLDER].. [--runs N] [--workers N] [--fusion 1|2] [--c] [--python FILE] [--mebibytes N] [--only WORD..]
 
 The works: an addition in chunks of 1 MiB, `(a*2 + b) > c` in chunks of 4 MiB, a sum over an axis, the sums up to each place along the
 first axis and along the last, a change from columns to rows in 64 MiB, and a product of matrices; with `--fusion 2` also the works of
-bench/day.py over its days. Then additions in 16,384 chunks of 1 KiB with the program alone. The program syncs each file before its rename,
-Dask writes as zarr does, without a sync. Which comes first changes at each round, and what all store is compared byte by byte.
+bench/day.py over its days, and with --c beside them its plain loops in C, by one process and by as many as there are workers. Then, with
+the program alone, additions in 16,384 chunks of 1 KiB, and the memory that a copy of one task takes with one worker, four and sixteen. The
+program and the loops sync each file before its rename, Dask writes as zarr does, without a sync. Which comes first changes at each round,
+and what all store is compared byte by byte.
 
 It prints the least times and the greatest resident memory of each, how many times as fast several workers are as one and as Dask (whose
-time is without Python's start), by the least times and round by round, and last which of the aims were missed. It does so in memory,
-where there is such a folder, and on the disk. Dask and zarr must be in --python.
+time is without Python's start), and several processes of the loops as one, by the least times and round by round, and last which of the
+aims were missed. It does so in memory, where there is such a folder, and on the disk. Dask and zarr must be in --python.
 """
 import argparse
 import functools
 import itertools
 import json
 import os
-import shutil
 import statistics
-import subprocess
 import sys
 import tempfile
-import time
 
 sys.dont_write_bytecode = True
 import small  # small.py, in this folder
-from stored import GNU_TIME, MIB, PROGRAM, can_import, folders, link_as_version_2, metadata, put, same_as_version_2, see_that_it_is_built, timed
+from stored import (GNU_TIME, MIB, PROGRAM, can_import, clear, folders, link_as_version_2, metadata, put, see_that_all_is_the_same,
+                    see_that_it_is_built, store_by_dask, timed)
 
-ONE, MANY, DASK = "one worker", "workers", "Dask"
+ONE, MANY, DASK, LOOP, LOOPS = "one worker", "workers", "Dask", "one process of C", "processes of C"
+# What each way stores.
+MADE = {ONE: ("y", "_cubed"), MANY: ("y", "_cubed"), DASK: ("dask",), LOOP: ("loops",), LOOPS: ("loops",)}
+# The workers of a copy of one task, whose memory is measured, and its array, in MiB.
+CREWS, COPIED = (1, 4, 16), 64
 # By how many times the workers are to be faster than one worker, than one with small tasks, and than Dask.
 AIM, SMALL_AIM, DASK_AIM = 3.2, 2.0, 0.9
 # Of a day's work: at most 0.9 of Dask's time.
@@ -94,7 +98,7 @@ def make_inputs(folder, work):
     """Stores arrays of numbers that differ from chunk to chunk, and links them for a zarr that reads version 2 alone."""
     if isinstance(work, DayWork):
         import day
-        day.make_inputs(folder, day.DAYS)
+        day.make_inputs(folder, day.DAYS, work.inputs)
         return
     import numpy
     counts = [-(-length // part) for length, part in zip(work.shape, work.chunk)]
@@ -107,24 +111,12 @@ def make_inputs(folder, work):
         link_as_version_2(folder, name, TYPES[work.dtype], work.shape, work.chunk)
 
 
-def by_dask(folder, work, workers):
-    """The peer: zarr opens and stores the arrays, Dask goes over the chunks with so many threads. The seconds that this takes."""
-    import dask
-    import dask.array
-    import zarr
-    start = time.perf_counter()
-    result = work.by_dask(*(dask.array.from_zarr(zarr.open(os.path.join(folder, f"{name}_v2"), mode="r")) for name in work.inputs))
-    target = zarr.open(os.path.join(folder, "dask"), mode="w", shape=result.shape, chunks=result.chunksize, dtype=result.dtype, compressor=None)
-    with dask.config.set(scheduler="threads", num_workers=workers):
-        dask.array.store(result, target, lock=False)
-    return time.perf_counter() - start
-
-
 class Told:
-    """What was measured of one way: its seconds round by round, its seconds with all that it starts, and GNU time's words of the best."""
+    """What was measured of one way: its seconds round by round, its seconds with all that it starts, GNU time's words of the best, and, if
+    it was asked for, the seconds of the processor."""
 
     def __init__(self):
-        self.seconds, self.whole, self.runs = [], [], []
+        self.seconds, self.whole, self.runs, self.processor = [], [], [], []
 
     def add(self, run, has_own_time):
         self.seconds.append(float(run[1]) if has_own_time else run[0])
@@ -149,6 +141,9 @@ def ways_of(given, folder, name, work):
     if given.has_dask:
         peer = ["--peer", name, folder, "--workers", str(given.workers), "--mebibytes", str(given.mebibytes), "--fusion", str(given.fusion)]
         ways[DASK] = [given.python, os.path.abspath(__file__), *peer]
+    if given.loops and isinstance(work, DayWork):
+        import day
+        ways.update((way, [given.loops, name, folder, str(day.DAYS), str(processes)]) for way, processes in ((LOOP, 1), (LOOPS, given.workers)))
     return ways
 
 
@@ -159,29 +154,59 @@ def measure(given, folder, name, work):
     told = {way: Told() for way in ways}
     for number in range(given.runs):
         for way in list(ways)[::1 if number % 2 == 0 else -1]:
-            for made in ("dask",) if way == DASK else ("y", "_cubed"):
-                shutil.rmtree(os.path.join(folder, made), ignore_errors=True)
+            clear(folder, MADE[way])
             os.sync()
             told[way].add(timed(ways[way], work.expression()), way == DASK)
-            if os.path.isdir(os.path.join(folder, "y")) and os.path.isdir(os.path.join(folder, "dask")) and not same_as_version_2(folder, "y", "dask"):
-                raise SystemExit(f"{name}: the chunks of Dask and of the program differ")
+            see_that_all_is_the_same(folder, name)
     return told
+
+
+def told_as(given, way):
+    """The words for a way."""
+    return {MANY: f"{given.workers} workers", DASK: f"{DASK}, {given.workers} threads", LOOPS: f"{given.workers} processes of C"}.get(way, way)
 
 
 def tell(given, name, work, told):
     """Prints what was measured of one work. Returns the aims that it missed."""
     print(f"  {name}:", flush=True)
     for way, one in told.items():
-        print(f"    {f'{given.workers} workers' if way == MANY else f'{DASK}, {given.workers} threads' if way == DASK else way}: {one.row()}")
+        print(f"    {told_as(given, way)}: {one.row()}")
     missed = []
-    for way in (ONE, DASK):
+    for many, way in ((MANY, ONE), (MANY, DASK), (MANY, LOOPS), (LOOPS, LOOP)):
         if way in told:
-            least, median = times_as_fast(told[MANY], told[way])
+            least, median = times_as_fast(told[many], told[way])
             aim = work.aims.get(way, 0)
-            print(f"    {given.workers} workers beside {way}: {least:.2f} times as fast (median of the rounds {median:.2f}{f'; aim {aim:.3g}' if aim else ''})", flush=True)
+            print(f"    {told_as(given, many)} beside {told_as(given, way)}: {least:.2f} times as fast (median of the rounds {median:.2f}{f'; aim {aim:.3g}' if aim else ''})", flush=True)
             if least < aim:
                 missed.append(f"{name} beside {way}: {least:.2f} for {aim:.3g}")
     return missed
+
+
+def loops_of(given, folder):
+    """The path of the plain loops of a day's works, if they are asked for."""
+    if not given.c or given.fusion == 1:
+        return None
+    import day
+    return day.compiled_loops(folder)
+
+
+def measure_memory(given, parent):
+    """Prints the resident memory of a copy of one task by crews of workers."""
+    side = 1 << ((COPIED * MIB // 4).bit_length() - 1) // 2
+    work = Work("a", [side, side], [side, side // 32], [node("r", "rechunk", "a", chunk=[side // 32, side])], None)
+    with tempfile.TemporaryDirectory(dir=parent, prefix="cubed-bench-") as folder:
+        make_inputs(folder, work)
+        found, reports = {}, set()
+        for workers in CREWS:
+            clear(folder, MADE[MANY])
+            _, report, told = timed([given.program, folder, "run", "--workers", str(workers)], work.expression())
+            found[workers] = int(told[2]) / 1024 if told else 0
+            reports.add(report)
+    if any(" tasks=1 " not in report for report in reports):
+        raise SystemExit(f"the copy isn't of one task: {reports}")
+    peak = int(reports.pop().rsplit("peak=", 1)[1]) / MIB
+    rows = ", ".join(f"{workers} worker{'s' * (workers > 1)} {memory:.1f} MiB" for workers, memory in found.items())
+    print(f"  resident memory of a copy of one task of {COPIED} MiB ({peak:.1f} MiB projected): {rows}", flush=True)
 
 
 def measure_in(given, parent):
@@ -200,6 +225,8 @@ def measure_in(given, parent):
         least = small.measure_small(given.program, parent, min(given.runs, 3), [1, given.workers])
         times = least[1] / least[given.workers]
         missed += [f"small tasks: {times:.2f} for {SMALL_AIM}"] if times < SMALL_AIM else []
+    if (not given.only or "memory" in given.only) and os.access(GNU_TIME, os.X_OK):
+        measure_memory(given, parent)
     if beside_dask:
         print(f"  ahead of Dask in {sum(beside_dask)} of {len(beside_dask)} works")
         missed += ["ahead of Dask in most"] if 2 * sum(beside_dask) <= len(beside_dask) else []
@@ -213,14 +240,16 @@ def main():
     words.add_argument("--runs", type=int, default=5, help="how many rounds")
     words.add_argument("--workers", type=int, default=4, help="how many workers, and threads of Dask")
     words.add_argument("--fusion", type=int, choices=[1, 2], default=1, help="the version of the program's plans")
+    words.add_argument("--c", action="store_true", help="measure a day's works by plain loops in C too")
     words.add_argument("--python", default=sys.executable, help="the Python that has NumPy, Dask and zarr")
     words.add_argument("--mebibytes", type=int, default=256, help="the size of each input")
-    words.add_argument("--only", nargs="*", help="the works whose names have one of these words, and `small`")
+    words.add_argument("--only", nargs="*", help="the works whose names have one of these words, `small` and `memory`")
     words.add_argument("--peer", nargs=2, help=argparse.SUPPRESS)
     given = words.parse_args()
     if given.peer:
         name, folder = given.peer
-        print(by_dask(folder, works_of(given)[name], given.workers))
+        work = works_of(given)[name]
+        print(store_by_dask(folder, work.inputs, work.by_dask, given.workers))
         return
     given.program = os.path.abspath(given.program)
     see_that_it_is_built(given.program)
@@ -230,7 +259,9 @@ def main():
     if not os.access(GNU_TIME, os.X_OK):
         print(f"without {GNU_TIME} no memory is told")
     print(f"{given.workers} workers on {os.cpu_count()} processors, inputs of {given.mebibytes} MiB, the least of {given.runs} runs")
-    missed = [one for parent in given.dir or folders() for one in measure_in(given, parent)]
+    with tempfile.TemporaryDirectory(prefix="cubed-build-") as made:
+        given.loops = loops_of(given, made)
+        missed = [one for parent in given.dir or folders() for one in measure_in(given, parent)]
     print("missed: " + "; ".join(missed) if missed else "no aim was missed")
 
 

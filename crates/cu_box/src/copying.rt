@@ -34,7 +34,7 @@ pub fn copy_strided(
     let first = join(axes, &mut held);
     let normal = &mut held[first..];
     sort(normal);
-    let mut tile = Held::make();
+    let mut tile: Option<Held> = None;
     copy_axes(size, order, normal, start, source, target, &mut tile);
 }
 
@@ -60,7 +60,7 @@ fn copy_axes(
     start: Start,
     source: &[u8],
     target: &mut [u8],
-    tile: &mut Held,
+    tile: &mut Option<Held>,
 )
     requires two { 2 ≤ length axes.now }
     requires can { CanCopy size axes.now start source.now (length target.old) }

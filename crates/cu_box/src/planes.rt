@@ -66,7 +66,7 @@ pub(crate) fn copy_plane(
     plane: &Plane,
     source: &[u8],
     target: &mut [u8],
-    held: &mut Held,
+    held: &mut Option<Held>,
 )
     requires can { CanCopy size (plane_axes plane.now) plane.now.start source.now (length target.old) }
     requires rows { 0 < plane.now.outer.count }
@@ -89,7 +89,7 @@ fn copy_sized<const N: usize>(
     plane: Plane,
     source: &[u8],
     target: &mut [u8],
-    held: &mut Held,
+    held: &mut Option<Held>,
 )
     requires can { CanCopy N (plane_axes plane) plane.start source.now (length target.old) }
     requires rows { 0 < plane.outer.count }
@@ -142,17 +142,18 @@ fn copy_stripes<const N: usize>(
     plane: Plane,
     source: &[u8],
     target: &mut [u8],
-    held: &mut Held,
+    held: &mut Option<Held>,
 )
     requires can { CanCopy N (plane_axes plane) plane.start source.now (length target.old) }
     requires rows { 0 < plane.outer.count }
     ensures { IsStridedCopy N order (plane_axes plane) plane.start source.now target.old target.new }
 {
+    let tiles = held.get_or_insert_with(Held::make);
     let mut at = 0;
     while at < plane.inner.count {
         let count = STRIPE.min(plane.inner.count - at);
         let stripe = inner_block(plane, at, count);
-        copy_stripe::<N>(order, stripe, source, target, held);
+        copy_stripe::<N>(order, stripe, source, target, tiles);
         at += count;
     }
 }

@@ -2,7 +2,9 @@ pub mod Chains
 pub mod Groups
 pub mod Merged
 pub mod Nonzero
-pub mod OneLevel
+pub mod PartTaken
+pub mod ResultPlaces
 pub mod Runs
 pub mod SetElements
+pub mod StripsTaken
 pub mod Totals

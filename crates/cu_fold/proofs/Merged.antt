@@ -22,7 +22,7 @@ alike_then xs ys zs f g = record {
 level_results : Level → List Level → Test → ℕ
 level_results l ls b = if b then results ls else l.size * results ls
 
-positive_last : (n r q : ℕ) → q < n * r → 0 < r
+pub positive_last : (n r q : ℕ) → q < n * r → 0 < r
 positive_last n zero q h = absurd (omega (arith, h))
 positive_last n (suc r) q h = omega arith
 

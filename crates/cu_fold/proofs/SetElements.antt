@@ -18,10 +18,9 @@ use Rattle.cu_num.proofs.ElementBytes.{width_is}
 use Rattle.cu_num.proofs.Residue.{Same, residue_same}
 use Rattle.cu_num.proofs.Wrapped.{by_class, is_wrapping, wrapped_in_range}
 use Rattle.cu_reduce.proofs.Folding.{zero_in_range}
-use Rattle.cu_reduce.proofs.Ranges.{range_append}
+use Rattle.cu_reduce.proofs.Ranges.{range_append, map-append}
 use Rattle.cu_fold.specs.SetBytes.{is_set}
 use Rattle.cu_take.specs.Taken.{elements_at_places}
-use Rattle.cu_fold.proofs.OneLevel.{elements_append}
 use Rattle.cu_fold.proofs.Nonzero.{or_none}
 
 set_positive : (n : ℕ) → 0 < n → is_set n ≡ true
@@ -115,7 +114,7 @@ set_elements t bytes (suc n) h fits =
     ∙ ap (λ b. list_any is_nonzero (elements_at_places t bytes (range_with_len 0 n)) || b) (sym (or_none (is_nonzero (element_at Little t bytes n))))
     ∙ sym (list_any-append is_nonzero (elements_at_places t bytes (range_with_len 0 n)) (element_at Little t bytes n ∷ []))
     ∙ ap (λ k. list_any is_nonzero (elements_at_places t bytes (range_with_len 0 n) ++ elements_at_places t bytes (range_with_len k 1))) (sym at)
-    ∙ ap (list_any is_nonzero) (sym (elements_append t bytes (range_with_len 0 n) (range_with_len (0 + n) 1)))
+    ∙ ap (list_any is_nonzero) (sym (map-append (λ p. element_at Little t bytes p) (range_with_len 0 n) (range_with_len (0 + n) 1)))
     ∙ ap (λ ps. list_any is_nonzero (elements_at_places t bytes ps)) (range_append 0 n 1 ∙ ap (range_with_len 0) (sym m))
 
 -- ---- block by block

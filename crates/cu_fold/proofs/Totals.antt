@@ -32,7 +32,7 @@ length_elements : (t : Dtype) (bytes ps : List ℕ) → length (elements_at_plac
 length_elements t bytes [] = refl
 length_elements t bytes (p ∷ ps) = ap suc (length_elements t bytes ps)
 
-has_enough : (kind : FoldKind) (gs : Groups) (ns : List ℕ) (m : ℕ) → HasEnough kind gs ns → (HasElements gs ns → 0 < m) → IsEnough kind m
+pub has_enough : (kind : FoldKind) (gs : Groups) (ns : List ℕ) (m : ℕ) → HasEnough kind gs ns → (HasElements gs ns → 0 < m) → IsEnough kind m
 has_enough k.Min gs ns m h g = g h
 has_enough k.Max gs ns m h g = g h
 has_enough kind gs ns m h g = tt

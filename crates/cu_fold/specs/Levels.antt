@@ -1,5 +1,6 @@
 -- The axes of a region as levels, each with its size and whether it is reduced, and the places of the elements that each result is made of.
-use Rattle.std.specs.Prelude.{◌≡◌, ℕ, zero, suc, ◌+◌, ◌*◌, ◌/◌, ◌%◌, ◌<◌, Bool, List, [], ◌∷◌, ◌++◌, map, if◌then◌else◌}
+use Rattle.std.specs.Prelude.{◌≡◌, ℕ, zero, suc, ◌+◌, ◌*◌, ◌/◌, ◌%◌, ◌<◌, ◌==◌, Bool, List, [], ◌∷◌, ◌++◌, map, if◌then◌else◌}
+use Rattle.std.specs.List.{range_with_len, filter}
 use Rattle.cu_fold.specs.declared.levels.Level.{Level}
 
 -- how many elements there are, and how many results
@@ -26,6 +27,19 @@ sources [] q = 0 ∷ []
 sources (l ∷ ls) q =
     if l.is_reduced then chained l.size (λ i. moved (i * extent ls) (sources ls q))
     else moved (q / results ls * extent ls) (sources ls (q % results ls))
+
+-- how much further on the results of a level's next index begin
+abbrev pub result_step : Level → List Level → ℕ
+result_step l ls = if l.is_reduced then 0 else results ls
+
+-- the result that the element at a place goes into
+abbrev pub result_of : List Level → ℕ → ℕ
+result_of [] p = 0
+result_of (l ∷ ls) p = p / extent ls * result_step l ls + result_of ls (p % extent ls)
+
+-- the places of the elements of result q among the n places from `start` on, in row-major order
+abbrev pub places_in : List Level → ℕ → ℕ → ℕ → List ℕ
+places_in levels q start n = filter (λ p. result_of levels p == q) (range_with_len start n)
 
 -- the levels of axes of these sizes, numbered from `first` on
 abbrev pub levels_from : (ℕ → Bool) → ℕ → List ℕ → List Level

@@ -1,4 +1,5 @@
 pub mod Levels
 pub mod Reduced
 pub mod SetBytes
+pub mod Strips
 pub mod Taken

@@ -11,8 +11,8 @@ ghost use Rattle.cu_reduce.specs.Numbers.{HasNumber};
 ghost use Rattle.cu_fold.specs.Reduced.{is_folded};
 
 use crate::levels::{Reduced, levels_of};
-use crate::types::Fold;
-use crate::walks::take_in;
+use crate::types::{Fold, Places};
+use crate::walks::take_part;
 use cu_num::{Dtype, FoldKind, size};
 use cu_origin::Axes;
 use cu_shape::Dims;
@@ -31,7 +31,15 @@ fn reduce(fold: Fold, reduced: Reduced, dims: &Dims, input: &[u8], out: &mut [u8
     fill(fold.kind, fold.acc, out);
     let levels = levels_of(reduced, dims);
     let count = input.len() / size(fold.from) as usize;
-    take_in(fold, &levels.list[..levels.count], 0, count, input, out);
+    let places = Places { start: 0, count };
+    take_part(
+        fold,
+        &levels.list[..levels.count],
+        count,
+        places,
+        input,
+        out,
+    );
 }
 
 /// The reduction of a region with these sizes along a set of its axes (Python array API, "Statistical Functions", "Utility Functions").

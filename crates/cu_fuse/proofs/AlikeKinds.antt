@@ -77,12 +77,6 @@ module _ (old new : List ArrayInfo) (s : SameLayouts old new) where
       ap (λ (o : Op). rule o new at array idx) (sym (same_op op))
       ∙ ((laws_of op).renumbered itself).value old new at at array idx (keeps op) (λ a there. refl) own
 
-  pub same_chunk : (a : ℕ) → chunk_room new a ≡ chunk_room old a
-  same_chunk a = first (rooms_same itself old new (a ∷ []) (each (a ∷ [])))
-    where
-      first : {x y : ℕ} → x ∷ [] ≡ y ∷ [] → x ≡ y
-      first e = cc
-
   same_grid : (a : ℕ) → grid_at new a ≡ grid_at old a
   same_grid a = ap (λ (l : Layout). l.grid) (s.at a)
 

@@ -1,18 +1,18 @@
 -- A plan while its inlined arrays are chosen: what each call of the code needs and gives.
 use Rattle.cu_op.proofs.AllStored.{all_projection}
 use Rattle.cu_op.proofs.KindLaws.{laws_of}
-use Rattle.cu_fuse.proofs.AlikeKinds.{same_by_chunk, same_input_room, same_output_room, same_scratch, SameLayouts}
+use Rattle.cu_fuse.proofs.AlikeKinds.{same_by_chunk, same_input_room, SameLayouts}
 use Rattle.cu_fuse.proofs.Chosen.{left, next, start, taken}
-use Rattle.cu_fuse.proofs.ChosenRooms.{first_room, grown_room, maker_out, needs_projection, reads_some, room_before, room_small, small_room, too_within}
+use Rattle.cu_fuse.proofs.ChosenRooms.{first_room, fits_told, grown_room, needs_projection, reads_some, room_before, told_fits, too_within}
 use Rattle.cu_fuse.proofs.Flagged.{again, array_flagged, flag_past, flags_alike, flags_are, from_stored, its_own, layouts_kept, long, maker_kept, read_before, stored_again, StayWithin}
-use Rattle.cu_fuse.specs.Choosing.{all_stored, IsChoiceTo, IsChosenTo}
-use Rattle.cu_fuse.specs.Inlining.{inlining, HasRoom, MayBeInlined}
-use Rattle.cu_fuse.specs.Rooms.{is_small, joined, own_room, room_within}
+use Rattle.cu_fuse.specs.Choosing.{all_stored, IsChosenTo, IsInliningChoiceTo}
+use Rattle.cu_fuse.specs.Inlining.{inlining, FitsOneTask, MayBeInlined}
+use Rattle.cu_fuse.specs.Rooms.{joined, own_room, room_fits, room_within}
 use Rattle.cu_fuse.specs.declared.room.Room.{Room}
-use Rattle.cu_op.specs.Arrays.{chunk_room, is_inlined, maker_at, no_array, AllStored}
+use Rattle.cu_op.specs.Arrays.{is_inlined, maker_at, no_array, AllStored}
 use Rattle.cu_op.specs.Operation.{reads_of, target_of, writes_of, IsBefore}
 use Rattle.cu_op.specs.PlanView.{PlanView, op_of}
-use Rattle.cu_op.specs.Projection.{own_projection}
+use Rattle.cu_op.specs.Projection.{input_room}
 use Rattle.cu_op.specs.Sound.{Sound}
 use Rattle.cu_op.specs.declared.layout.ArrayInfo.{ArrayInfo}
 use Rattle.std.proofs.Common.{◌≡◌, inl, inr, ℕ, ◌+◌, ◌^◌, ◌<◌, ◌≤◌, ◌==◌, ◌||◌, true, false, length, All, Contains, Some, None, Option, ap, sym, ◌∙◌, subst, arith, Bool}
@@ -100,15 +100,12 @@ module _ (c : PlanView) (k i : ℕ) (h : IsChosenTo c k i) where
   pub few_arrays : length c.arrays < 2 ^ 32
   few_arrays = let l = long c (λ x. false) in let w = h.sound.array_count in omega (arith, l, w)
 
-  pub own_small : k < length c.ops → own_projection c.arrays 0 (op_of c k) < 2 ^ 64
+  pub own_small : k < length c.ops → input_room c.arrays (op_of c k) < 2 ^ 64
   own_small b =
-      let op = op_of c k in
       let room = h.sound.rooms k b in
       let e = all_projection p k (none_inlined c) in
-      let x = same_scratch c.arrays p.arrays (layouts_kept c (λ y. false)) op in
-      let y = same_input_room c.arrays p.arrays (layouts_kept c (λ z. false)) op in
-      let z = same_output_room c.arrays p.arrays (layouts_kept c (λ w. false)) op in
-      omega (arith, room, e, x, y, z)
+      let y = same_input_room c.arrays p.arrays (layouts_kept c (λ z. false)) (op_of c k) in
+      omega (arith, room, e, y)
 
   -- ---- what is needed
 
@@ -128,11 +125,11 @@ module _ (c : PlanView) (k i : ℕ) (h : IsChosenTo c k i) where
     now_is = again c (λ b. false) too
 
     -- the array isn't chosen
-    pub not_taken : (MayBeInlined c k a → HasRoom (inlining c too) k → ⊥) → IsChosenTo c k (i + 1)
+    pub not_taken : (MayBeInlined c k a → FitsOneTask (inlining c too) k → ⊥) → IsChosenTo c k (i + 1)
     not_taken never = record {
       sound = h.sound;
       allowed = h.allowed;
-      choice = left p chosen k i h.choice a at (λ m. never (of_may c k a m.0) (subst (λ (q : PlanView). HasRoom q k) now_is m.1));
+      choice = left p chosen k i h.choice a at (λ m. never (of_may c k a m.0) (subst (λ (q : PlanView). FitsOneTask q k) now_is m.1));
     }
 
     module _ (may : MayBeInlined c k a) where
@@ -140,32 +137,26 @@ module _ (c : PlanView) (k i : ℕ) (h : IsChosenTo c k i) where
       m_is m e = same_Some may.maker.0 m (sym may.maker.1 ∙ e)
 
       pub joined_is : (m : ℕ) → maker_at c.arrays a ≡ Some m
-          → room_within (inlining c too) k ≡ joined (room_within c k) (room_within c m) (chunk_room c.arrays a)
+          → room_within (inlining c too) k ≡ joined (room_within c k) (room_within c m)
       joined_is m e =
           ap (λ (q : PlanView). room_within q k) (sym now_is)
           ∙ grown_room p h.sound chosen few k i h.choice a at (may_of c k a may)
-          ∙ (λ t. joined (room_within (sym (from_stored c) t) k) (room_within (sym (from_stored c) t) may.maker.0) (chunk_room (sym (from_stored c) t).arrays a))
-          ∙ ap (λ (n : ℕ). joined (room_within c k) (room_within c n) (chunk_room c.arrays a)) (m_is m e)
+          ∙ (λ t. joined (room_within (sym (from_stored c) t) k) (room_within (sym (from_stored c) t) may.maker.0))
+          ∙ ap (λ (n : ℕ). joined (room_within c k) (room_within c n)) (m_is m e)
 
       pub some_reads : 0 < (room_within c k).reads
       some_reads =
           subst (λ (q : PlanView). 0 < (room_within q k).reads) (sym (from_stored c))
           (reads_some p h.sound chosen few k i h.choice a at (may_of c k a may))
 
-      pub chunk_counted : (m : ℕ) → maker_at c.arrays a ≡ Some m → chunk_room c.arrays a ≤ (room_within c m).regions
-      chunk_counted m e =
-          subst (λ (n : ℕ). chunk_room c.arrays a ≤ (room_within c n).regions) (m_is m e)
-          (subst (λ (q : PlanView). chunk_room q.arrays a ≤ (room_within q may.maker.0).regions) (sym (from_stored c))
-          (let out = maker_out p h.sound chosen few k i h.choice a at (may_of c k a may) in omega (arith, out)))
-
       -- the array is chosen
-      pub taken_now : HasRoom (inlining c too) k → IsChosenTo (inlining c too) k (i + 1)
+      pub taken_now : FitsOneTask (inlining c too) k → IsChosenTo (inlining c too) k (i + 1)
       taken_now room = record {
         sound = subst Sound (sym (stored_again c too)) h.sound;
         allowed = h.allowed;
-        choice = subst (λ (q : PlanView). IsChoiceTo q (is_inlined (inlining c too).arrays) k (i + 1)) (sym (stored_again c too))
-            (subst (λ (f : ℕ → Bool). IsChoiceTo p f k (i + 1)) (sym (flags_are c too stay))
-            (taken p chosen k i h.choice a at (may_of c k a may) (subst (λ (q : PlanView). HasRoom q k) (sym now_is) room)));
+        choice = subst (λ (q : PlanView). IsInliningChoiceTo q (is_inlined (inlining c too).arrays) k (i + 1)) (sym (stored_again c too))
+            (subst (λ (f : ℕ → Bool). IsInliningChoiceTo p f k (i + 1)) (sym (flags_are c too stay))
+            (taken p chosen k i h.choice a at (may_of c k a may) (subst (λ (q : PlanView). FitsOneTask q k) (sym now_is) room)));
       }
         where
           stay : StayWithin c too
@@ -179,31 +170,31 @@ module _ (c : PlanView) (k i : ℕ) (h : IsChosenTo c k i) where
 
       -- it is chosen where the reader has room
       pub too_large : (m : ℕ) → maker_at c.arrays a ≡ Some m
-          → is_small c.allowed c.reserved (joined (room_within c k) (room_within c m) (chunk_room c.arrays a)) ≡ false
-          → HasRoom (inlining c too) k → ⊥
+          → room_fits c.allowed c.reserved (joined (room_within c k) (room_within c m)) ≡ false
+          → FitsOneTask (inlining c too) k → ⊥
       too_large m e off room =
-          let on = room_small (inlining c too) k room in
+          let on = told_fits (inlining c too) k room in
           let same = joined_is m e in
-          both (subst (λ (r : Room). is_small c.allowed c.reserved r ≡ true) same on) off
+          both (subst (λ (r : Room). room_fits c.allowed c.reserved r ≡ true) same on) off
         where
           both : {b : Bool} → b ≡ true → b ≡ false → ⊥
           both t f = cc
 
       pub too_long : (m : ℕ) → maker_at c.arrays a ≡ Some m
-          → 2 ^ 64 ≤ (joined (room_within c k) (room_within c m) (chunk_room c.arrays a)).regions
-          → HasRoom (inlining c too) k → ⊥
+          → 2 ^ 64 ≤ (joined (room_within c k) (room_within c m)).inputs
+          → FitsOneTask (inlining c too) k → ⊥
       too_long m e far room =
           let most = room.memory in
           let is = needs_projection (inlining c too) k in
-          let same = ap (λ (r : Room). r.regions) (joined_is m e) in
+          let same = ap (λ (r : Room). r.inputs) (joined_is m e) in
           let allowed = h.allowed in
           omega (arith, most, is, same, allowed, far)
 
       pub small_enough : (m : ℕ) → maker_at c.arrays a ≡ Some m
-          → is_small c.allowed c.reserved (joined (room_within c k) (room_within c m) (chunk_room c.arrays a)) ≡ true
-          → HasRoom (inlining c too) k
+          → room_fits c.allowed c.reserved (joined (room_within c k) (room_within c m)) ≡ true
+          → FitsOneTask (inlining c too) k
       small_enough m e on =
-          small_room (inlining c too) k (subst (λ (r : Room). is_small c.allowed c.reserved r ≡ true) (sym (joined_is m e)) on)
+          fits_told (inlining c too) k (subst (λ (r : Room). room_fits c.allowed c.reserved r ≡ true) (sym (joined_is m e)) on)
 
 -- ---- the ends
 
@@ -213,7 +204,7 @@ begun p s stored room =
     record {
       sound = subst Sound (sym same) s;
       allowed = room;
-      choice = subst (λ (f : ℕ → Bool). IsChoiceTo (all_stored p) f 0 0) none (start (all_stored p));
+      choice = subst (λ (f : ℕ → Bool). IsInliningChoiceTo (all_stored p) f 0 0) none (start (all_stored p));
     }
   where
     none : (λ (a : ℕ). false) ≡ is_inlined p.arrays

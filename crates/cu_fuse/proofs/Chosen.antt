@@ -2,9 +2,9 @@
 use Rattle.cu_op.proofs.Members.{any_contains, bool_cases, contains_any, not_any}
 use Rattle.cu_fuse.proofs.Flagged.{flags_alike}
 use Rattle.cu_fuse.proofs.ReadOnce.{earlier_read, not_before, read_earlier, reader_within, stands_at, stands_not, times, place_in}
-use Rattle.cu_fuse.specs.Choosing.{IsChoiceTo, IsEarlier}
+use Rattle.cu_fuse.specs.Choosing.{IsEarlier, IsInliningChoiceTo}
 use Rattle.cu_fuse.specs.Fused.{stands_in}
-use Rattle.cu_fuse.specs.Inlining.{inlining, read_count, reads_before, trial, HasRoom, IsChoice, MayBeInlined}
+use Rattle.cu_fuse.specs.Inlining.{earlier_reads, inlining, read_count, trial, FitsOneTask, IsInliningChoice, MayBeInlined}
 use Rattle.cu_op.specs.Operation.{reads_of}
 use Rattle.cu_op.specs.PlanView.{PlanView, op_of, operation_at}
 use Rattle.cu_op.specs.declared.operation.Planned.{Planned}
@@ -44,7 +44,7 @@ and_on : (x y : Bool) → y ≡ true → (x && y) ≡ x
 and_on true y t = t
 and_on false y t = refl
 
-module _ (p : PlanView) (chosen : ℕ → Bool) (k i : ℕ) (c : IsChoiceTo p chosen k i) where
+module _ (p : PlanView) (chosen : ℕ → Bool) (k i : ℕ) (c : IsInliningChoiceTo p chosen k i) where
   -- a chosen array is read before
   pub chosen_at : (a : ℕ) → chosen a ≡ true → (j : ℕ) × (n : ℕ) × IsEarlier j n k i × (slice_get (reads_of (op_of p j)) n ≡ Some a) × MayBeInlined p j a
   chosen_at a t =
@@ -58,14 +58,14 @@ module _ (p : PlanView) (chosen : ℕ → Bool) (k i : ℕ) (c : IsChoiceTo p ch
 
     trial_with : (other : ℕ → Bool) → ((b : ℕ) → (b == a) ≡ false → other b ≡ chosen b) → trial p other k i a ≡ inlining p too
     trial_with other same =
-        flags_alike p (λ b. b == a || (other b && stands_in (reads_before p k i) b)) too (λ b l.
+        flags_alike p (λ b. b == a || (other b && stands_in (earlier_reads p k i) b)) too (λ b l.
         elim (bool_cases (b == a)) [
           | inl t ↦ rw t refl
           | inr f ↦
               let e = same b f in
-              let own : (other b && stands_in (reads_before p k i) b) ≡ chosen b =
+              let own : (other b && stands_in (earlier_reads p k i) b) ≡ chosen b =
               elim (bool_cases (chosen b)) [
-                | inl t ↦ and_on (other b) (stands_in (reads_before p k i) b) (contains_any (reads_before p k i) b (c.only b t)) ∙ e
+                | inl t ↦ and_on (other b) (stands_in (earlier_reads p k i) b) (contains_any (earlier_reads p k i) b (c.only b t)) ∙ e
                 | inr off ↦ let o : other b ≡ false = e ∙ off in rw (o, off) refl
               ] in
               rw f own
@@ -74,77 +74,77 @@ module _ (p : PlanView) (chosen : ℕ → Bool) (k i : ℕ) (c : IsChoiceTo p ch
     pub trial_now : trial p chosen k i a ≡ inlining p too
     trial_now = trial_with chosen (λ b f. refl)
 
-    widened : (b : ℕ) → Contains (reads_before p k i) b → Contains (reads_before p k (i + 1)) b
+    widened : (b : ℕ) → Contains (earlier_reads p k i) b → Contains (earlier_reads p k (i + 1)) b
     widened b there =
         let (j, n, order, found) = earlier_read p k i b there in
         read_earlier p k (i + 1) b j n (later j n k i order) found
 
     -- the array isn't chosen
-    pub left : (MayBeInlined p k a × HasRoom (inlining p too) k → ⊥) → IsChoiceTo p chosen k (i + 1)
+    pub left : (MayBeInlined p k a × FitsOneTask (inlining p too) k → ⊥) → IsInliningChoiceTo p chosen k (i + 1)
     left never = record {
       read = λ j n b order found. elim (next_cases j n k i order) [
         | inl before ↦ c.read j n b before found
         | inr here ↦
             let same : a ≡ b = same_Some a b (sym at ∙ ap (λ (m : ℕ). slice_get (reads_of (op_of p k)) m) (sym here.1)
             ∙ ap (λ (m : ℕ). slice_get (reads_of (op_of p m)) n) (sym here.0) ∙ found) in
-            subst (λ (m : ℕ). (chosen b ≡ true) ↔ (MayBeInlined p m b × HasRoom (trial p chosen m n b) m)) (sym here.0)
-            (subst (λ (m : ℕ). (chosen b ≡ true) ↔ (MayBeInlined p k b × HasRoom (trial p chosen k m b) k)) (sym here.1)
-            (subst (λ (m : ℕ). (chosen m ≡ true) ↔ (MayBeInlined p k m × HasRoom (trial p chosen k i m) k)) same own))
+            subst (λ (m : ℕ). (chosen b ≡ true) ↔ (MayBeInlined p m b × FitsOneTask (trial p chosen m n b) m)) (sym here.0)
+            (subst (λ (m : ℕ). (chosen b ≡ true) ↔ (MayBeInlined p k b × FitsOneTask (trial p chosen k m b) k)) (sym here.1)
+            (subst (λ (m : ℕ). (chosen m ≡ true) ↔ (MayBeInlined p k m × FitsOneTask (trial p chosen k i m) k)) same own))
       ];
       only = λ b t. widened b (c.only b t);
     }
       where
-        own : (chosen a ≡ true) ↔ (MayBeInlined p k a × HasRoom (trial p chosen k i a) k)
+        own : (chosen a ≡ true) ↔ (MayBeInlined p k a × FitsOneTask (trial p chosen k i a) k)
         own = (
           λ t. let (j, n, order, found, may) = chosen_at a t in absurd (not_before p k i a may.once at (c.only a t)),
-          λ h. absurd (never (h.0, subst (λ (q : PlanView). HasRoom q k) trial_now h.1)),
+          λ h. absurd (never (h.0, subst (λ (q : PlanView). FitsOneTask q k) trial_now h.1)),
         )
 
     -- the array is chosen
     module _ (may : MayBeInlined p k a) where
-      not_read : (j n : ℕ) → IsEarlier j n k i → Contains (reads_before p j n) a → ⊥
+      not_read : (j n : ℕ) → IsEarlier j n k i → Contains (earlier_reads p j n) a → ⊥
       not_read j n order there =
           let (l, m, first, found) = earlier_read p j n a there in
           not_before p k i a may.once at (read_earlier p k i a l m (earlier_through l m j n k i first order) found)
 
       trial_before : (j n b : ℕ) → IsEarlier j n k i → trial p too j n b ≡ trial p chosen j n b
       trial_before j n b order =
-          flags_alike p (λ x. x == b || (too x && stands_in (reads_before p j n) x)) (λ x. x == b || (chosen x && stands_in (reads_before p j n) x)) (λ x l.
+          flags_alike p (λ x. x == b || (too x && stands_in (earlier_reads p j n) x)) (λ x. x == b || (chosen x && stands_in (earlier_reads p j n) x)) (λ x l.
           ap (λ (y : Bool). x == b || y)
           (elim (eqb_tells x a) [
             | inl t ↦
-                let off : stands_in (reads_before p j n) x ≡ false =
-                not_any (reads_before p j n) x (λ there. not_read j n order (subst (Contains (reads_before p j n)) t.1 there)) in
-                and_off (too x) (stands_in (reads_before p j n) x) off ∙ sym (and_off (chosen x) (stands_in (reads_before p j n) x) off)
+                let off : stands_in (earlier_reads p j n) x ≡ false =
+                not_any (earlier_reads p j n) x (λ there. not_read j n order (subst (Contains (earlier_reads p j n)) t.1 there)) in
+                and_off (too x) (stands_in (earlier_reads p j n) x) off ∙ sym (and_off (chosen x) (stands_in (earlier_reads p j n) x) off)
             | inr t ↦ let off = t.0 in rw off refl
           ]))
 
-      pub taken : HasRoom (inlining p too) k → IsChoiceTo p too k (i + 1)
+      pub taken : FitsOneTask (inlining p too) k → IsInliningChoiceTo p too k (i + 1)
       taken room = record {
         read = λ j n b order found. elim (next_cases j n k i order) [
           | inl before ↦
               let other : (b == a) ≡ false =
               elim (eqb_tells b a) [
-                | inl t ↦ absurd (not_before p k i a may.once at (subst (Contains (reads_before p k i)) t.1 (read_earlier p k i b j n before found)))
+                | inl t ↦ absurd (not_before p k i a may.once at (subst (Contains (earlier_reads p k i)) t.1 (read_earlier p k i b j n before found)))
                 | inr t ↦ t.0
               ] in
               let e : too b ≡ chosen b = rw other refl in
               let was = c.read j n b before found in
               let trials = trial_before j n b before in (
-                λ t. let r = was.0 (sym e ∙ t) in (r.0, subst (λ (q : PlanView). HasRoom q j) (sym trials) r.1),
-                λ r. e ∙ was.1 (r.0, subst (λ (q : PlanView). HasRoom q j) trials r.1),
+                λ t. let r = was.0 (sym e ∙ t) in (r.0, subst (λ (q : PlanView). FitsOneTask q j) (sym trials) r.1),
+                λ r. e ∙ was.1 (r.0, subst (λ (q : PlanView). FitsOneTask q j) trials r.1),
               )
           | inr here ↦
               let same : a ≡ b = same_Some a b (sym at ∙ ap (λ (m : ℕ). slice_get (reads_of (op_of p k)) m) (sym here.1)
               ∙ ap (λ (m : ℕ). slice_get (reads_of (op_of p m)) n) (sym here.0) ∙ found) in
-              subst (λ (m : ℕ). (too b ≡ true) ↔ (MayBeInlined p m b × HasRoom (trial p too m n b) m)) (sym here.0)
-              (subst (λ (m : ℕ). (too b ≡ true) ↔ (MayBeInlined p k b × HasRoom (trial p too k m b) k)) (sym here.1)
-              (subst (λ (m : ℕ). (too m ≡ true) ↔ (MayBeInlined p k m × HasRoom (trial p too k i m) k)) same own))
+              subst (λ (m : ℕ). (too b ≡ true) ↔ (MayBeInlined p m b × FitsOneTask (trial p too m n b) m)) (sym here.0)
+              (subst (λ (m : ℕ). (too b ≡ true) ↔ (MayBeInlined p k b × FitsOneTask (trial p too k m b) k)) (sym here.1)
+              (subst (λ (m : ℕ). (too m ≡ true) ↔ (MayBeInlined p k m × FitsOneTask (trial p too k i m) k)) same own))
         ];
         only = λ b t. elim (or_cases (b == a) (chosen b) t) [
           | inl is ↦
               let same : a ≡ b = sym (eqb-true b a is) in
-              subst (Contains (reads_before p k (i + 1))) same (read_earlier p k (i + 1) a k i (inr (refl, omega arith)) at)
+              subst (Contains (earlier_reads p k (i + 1))) same (read_earlier p k (i + 1) a k i (inr (refl, omega arith)) at)
           | inr was ↦ widened b (c.only b was)
         ];
       }
@@ -152,21 +152,21 @@ module _ (p : PlanView) (chosen : ℕ → Bool) (k i : ℕ) (c : IsChoiceTo p ch
           itself : (a == a) ≡ true
           itself = eq-eqb a a refl
 
-          own : (too a ≡ true) ↔ (MayBeInlined p k a × HasRoom (trial p too k i a) k)
+          own : (too a ≡ true) ↔ (MayBeInlined p k a × FitsOneTask (trial p too k i a) k)
           own = (
-            λ t. (may, subst (λ (q : PlanView). HasRoom q k) (sym (trial_with too (λ b off. rw off refl))) room),
+            λ t. (may, subst (λ (q : PlanView). FitsOneTask q k) (sym (trial_with too (λ b off. rw off refl))) room),
             λ h. rw itself refl,
           )
 
 -- ---- all inputs
 
-pub start : (p : PlanView) → IsChoiceTo p (λ a. false) 0 0
+pub start : (p : PlanView) → IsInliningChoiceTo p (λ a. false) 0 0
 start p = record {
   read = λ j n a order found. elim order [ inl l ↦ absurd (omega (arith, l)) | inr e ↦ absurd (let l = e.1 in omega (arith, l)) ];
   only = λ a t. cc;
 }
 
-pub next : (p : PlanView) (chosen : ℕ → Bool) (k i : ℕ) → length (reads_of (op_of p k)) ≡ i → IsChoiceTo p chosen k i → IsChoiceTo p chosen (k + 1) 0
+pub next : (p : PlanView) (chosen : ℕ → Bool) (k i : ℕ) → length (reads_of (op_of p k)) ≡ i → IsInliningChoiceTo p chosen k i → IsInliningChoiceTo p chosen (k + 1) 0
 next p chosen k i all c = record {
   read = λ j n a order found. c.read j n a (within j n a order found) found;
   only = λ a t.
@@ -190,7 +190,7 @@ next p chosen k i all c = record {
               inr (same, omega (arith, b, long, all))
         ]
 
-pub finished : (p : PlanView) (chosen : ℕ → Bool) → IsChoiceTo p chosen (length p.ops) 0 → IsChoice p chosen
+pub finished : (p : PlanView) (chosen : ℕ → Bool) → IsInliningChoiceTo p chosen (length p.ops) 0 → IsInliningChoice p chosen
 finished p chosen c = record {
   read = λ k i a found. c.read k i a (inl (reader_within p k a (stands_at (reads_of (op_of p k)) i a found))) found;
   unread = λ a none. false_from_ne_true (chosen a) (λ t.
@@ -218,17 +218,17 @@ iff_same true y there back = sym (there refl)
 iff_same false true there back = back refl
 iff_same false false there back = refl
 
-module _ (p : PlanView) (f g : ℕ → Bool) (c : IsChoice p f) (d : IsChoice p g) where
+module _ (p : PlanView) (f g : ℕ → Bool) (c : IsInliningChoice p f) (d : IsInliningChoice p g) where
   abbrev Same : ℕ → ℕ → Type 0
-  Same k i = (b : ℕ) → Contains (reads_before p k i) b → f b ≡ g b
+  Same k i = (b : ℕ) → Contains (earlier_reads p k i) b → f b ≡ g b
 
   same_trial : (k i a : ℕ) → Same k i → trial p f k i a ≡ trial p g k i a
   same_trial k i a same =
-      flags_alike p (λ x. x == a || (f x && stands_in (reads_before p k i) x)) (λ x. x == a || (g x && stands_in (reads_before p k i) x)) (λ x l.
+      flags_alike p (λ x. x == a || (f x && stands_in (earlier_reads p k i) x)) (λ x. x == a || (g x && stands_in (earlier_reads p k i) x)) (λ x l.
       ap (λ (y : Bool). x == a || y)
-      (elim (bool_cases (stands_in (reads_before p k i) x)) [
-        | inl t ↦ ap (λ (y : Bool). y && stands_in (reads_before p k i) x) (same x (any_contains (reads_before p k i) x t))
-        | inr off ↦ and_off (f x) (stands_in (reads_before p k i) x) off ∙ sym (and_off (g x) (stands_in (reads_before p k i) x) off)
+      (elim (bool_cases (stands_in (earlier_reads p k i) x)) [
+        | inl t ↦ ap (λ (y : Bool). y && stands_in (earlier_reads p k i) x) (same x (any_contains (earlier_reads p k i) x t))
+        | inr off ↦ and_off (f x) (stands_in (earlier_reads p k i) x) off ∙ sym (and_off (g x) (stands_in (earlier_reads p k i) x) off)
       ]))
 
   same_here : (k i a : ℕ) → Same k i → slice_get (reads_of (op_of p k)) i ≡ Some a → f a ≡ g a
@@ -237,8 +237,8 @@ module _ (p : PlanView) (f g : ℕ → Bool) (c : IsChoice p f) (d : IsChoice p 
       let y = d.read k i a at in
       let trials = same_trial k i a same in
       iff_same (f a) (g a)
-      (λ t. let r = x.0 t in y.1 (r.0, subst (λ (q : PlanView). HasRoom q k) trials r.1))
-      (λ t. let r = y.0 t in x.1 (r.0, subst (λ (q : PlanView). HasRoom q k) (sym trials) r.1))
+      (λ t. let r = x.0 t in y.1 (r.0, subst (λ (q : PlanView). FitsOneTask q k) trials r.1))
+      (λ t. let r = y.0 t in x.1 (r.0, subst (λ (q : PlanView). FitsOneTask q k) (sym trials) r.1))
 
   same_inputs : (k : ℕ) → Same k 0 → (i : ℕ) → Same k i
   same_inputs k first zero = first

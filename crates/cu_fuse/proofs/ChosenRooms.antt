@@ -1,40 +1,39 @@
 -- What operations need while the arrays are chosen that are inlined.
-use Rattle.cu_op.proofs.KindLaws.{laws_of}
-use Rattle.cu_op.proofs.Members.{bool_cases, only_member}
 use Rattle.cu_fuse.proofs.AlikeKinds.{same_input_room, same_output_room, same_scratch}
 use Rattle.cu_fuse.proofs.Chosen.{chosen_at}
 use Rattle.cu_fuse.proofs.Flagged.{alike, flag_is, maker_kept, read_before, StayWithin}
 use Rattle.cu_fuse.proofs.Grown.{before_agree, grown, grown_reads, largest_among, sum_among, OneMore}
 use Rattle.cu_fuse.proofs.Inside.{alone, map_alike, same_inputs, same_outputs, same_reads, same_scratches, same_within, sum_alike, AreAlike}
 use Rattle.cu_fuse.proofs.ReadOnce.{not_before, place_in, read_earlier, stands_at}
-use Rattle.cu_fuse.specs.Choosing.{IsChoiceTo}
-use Rattle.cu_fuse.specs.Inlining.{inlining, HasRoom, MayBeInlined}
-use Rattle.cu_fuse.specs.Rooms.{is_small, joined, needs, own_room, room_within}
+use Rattle.cu_fuse.specs.Choosing.{IsInliningChoiceTo}
+use Rattle.cu_fuse.specs.Inlining.{inlining, FitsOneTask, MayBeInlined}
+use Rattle.cu_fuse.specs.Rooms.{fits_one_task, joined, needs, own_room, room_within}
 use Rattle.cu_fuse.specs.declared.room.Room.{Room}
-use Rattle.cu_op.specs.Arrays.{chunk_room, is_inlined, maker_at}
-use Rattle.cu_op.specs.Operation.{reads_of, target_of, IsBefore}
+use Rattle.cu_op.specs.Arrays.{is_inlined, maker_at}
+use Rattle.cu_op.specs.Operation.{reads_of, IsBefore}
 use Rattle.cu_op.specs.PlanView.{PlanView, op_of}
 use Rattle.cu_op.specs.Projection.{input_room, instruction_count, output_room, projection, scratch_room}
 use Rattle.cu_op.specs.Sound.{Sound}
 use Rattle.cu_op.specs.Within.{maker_op, ops_deep, ops_within, stored_reads}
 use Rattle.cu_op.specs.declared.operation.Op.{Op}
 use Rattle.cu_shape.specs.Counts.{largest}
-use Rattle.std.proofs.Common.{◌≡◌, ◌≢◌, inl, inr, ℕ, zero, suc, ◌+◌, ◌-◌, ◌<◌, ◌≤◌, ◌==◌, ◌&&◌, ◌||◌, true, false, not, List, [], ◌∷◌, length, map, max, get_or, nat_le, Contains, Some, None, Option, refl, ap, sym, ◌∙◌, subst, arith, if◌then◌else◌, Bool}
+use Rattle.std.proofs.Common.{◌≡◌, ◌≢◌, inl, inr, ℕ, zero, suc, ◌+◌, ◌-◌, ◌<◌, ◌≤◌, ◌==◌, ◌&&◌, ◌||◌, true, false, not, List, [], ◌∷◌, length, map, max, get_or, nat_le, Contains, Some, None, Option, refl, ap, sym, ◌∙◌, arith, if◌then◌else◌, Bool}
 use Rattle.std.specs.List.{count_by, flat_map, slice_get}
 use Rattle.std.specs.Prelude.{sum_by}
-use Rattle.std.proofs.lemmas.Bool.{and_parts, eq-eqb, eqb-true, false_from_ne_true, le-leb, leb-true, ne_eqb}
+use Rattle.std.proofs.lemmas.Bool.{and_parts, eq-eqb, false_from_ne_true, le-leb, leb-true, ne_eqb}
 use Rattle.std.proofs.lemmas.List.Sums.{get_or-le-sum_by, sum_by-cons}
 
-abbrev room_of : ℕ → ℕ → ℕ → ℕ → Room
-room_of steps reads scratch regions = record { steps = steps; reads = reads; scratch = scratch; regions = regions }
+abbrev room_of : ℕ → ℕ → ℕ → ℕ → ℕ → Room
+room_of steps reads scratch inputs output =
+    record { steps = steps; reads = reads; scratch = scratch; inputs = inputs; output = output }
 
 abbrev one_if : Bool → ℕ
 one_if b = if b then 1 else 0
 
 -- ---- a room, and what it is compared with
 
-pub small_room : (q : PlanView) (k : ℕ) → is_small q.allowed q.reserved (room_within q k) ≡ true → HasRoom q k
-small_room q k h =
+pub fits_told : (q : PlanView) (k : ℕ) → fits_one_task q k ≡ true → FitsOneTask q k
+fits_told q k h =
     let r = room_within q k in
     let (a, rest) = and_parts (nat_le r.steps 32) (nat_le r.reads 8 && nat_le (needs q.reserved r) q.allowed) h in
     let (b, c) = and_parts (nat_le r.reads 8) (nat_le (needs q.reserved r) q.allowed) rest in
@@ -43,8 +42,8 @@ small_room q k h =
     let z = leb-true (needs q.reserved r) q.allowed c in
     record { instructions = x; reads = y; memory = omega (arith, z) }
 
-pub room_small : (q : PlanView) (k : ℕ) → HasRoom q k → is_small q.allowed q.reserved (room_within q k) ≡ true
-room_small q k h =
+pub told_fits : (q : PlanView) (k : ℕ) → FitsOneTask q k → fits_one_task q k ≡ true
+told_fits q k h =
     let r = room_within q k in
     let m = h.memory in
     let a = le-leb r.steps 32 h.instructions in
@@ -64,9 +63,9 @@ module _ (p q : PlanView) (s : AreAlike p q) where
       let a : sum_by instruction_count (ops_within q k) ≡ sum_by instruction_count (ops_within p k) = ap (sum_by instruction_count) (same_within p q s k agree) in
       let b = same_reads p q s k agree in
       let c = same_scratches p q s k agree in
-      let d : sum_by (input_room q.arrays) (ops_within q k) + output_room q.arrays (op_of q k) ≡ sum_by (input_room p.arrays) (ops_within p k) + output_room p.arrays (op_of p k) =
-      (let x = same_inputs p q s k agree in let y = same_outputs p q s k in omega (arith, x, y)) in
-      λ i. room_of (a i) (b i) (c i) (d i)
+      let d = same_inputs p q s k agree in
+      let e = same_outputs p q s k in
+      λ i. room_of (a i) (b i) (c i) (d i) (e i)
 
 one_sum : (f : Op → ℕ) (op : Op) → sum_by f (op ∷ []) ≡ f op
 one_sum f op = sum_by-cons f op [] ∙ (let e : f op + 0 ≡ f op = omega arith in e)
@@ -82,7 +81,7 @@ all_counted f (x ∷ xs) h =
 
 -- ---- one operation
 
-module _ (p : PlanView) (s : Sound p) (chosen : ℕ → Bool) (few : StayWithin p chosen) (k i : ℕ) (c : IsChoiceTo p chosen k i) where
+module _ (p : PlanView) (s : Sound p) (chosen : ℕ → Bool) (few : StayWithin p chosen) (k i : ℕ) (c : IsInliningChoiceTo p chosen k i) where
   some_maker : (o : Option ℕ) (m : ℕ) → o ≡ Some m → o ≢ None
   some_maker None m e none = cc
   some_maker (Some n) m e none = cc
@@ -117,9 +116,9 @@ module _ (p : PlanView) (s : Sound p) (chosen : ℕ → Bool) (few : StayWithin 
         ∙ all_counted (λ x. not (is_inlined arrays x)) (reads_of op) (λ x read. let f = none_read x read in rw f refl) in
         let d : largest (map (scratch_room arrays) (ops_within (inlining p chosen) k)) ≡ scratch_room arrays op =
         ap (λ (ops : List Op). largest (map (scratch_room arrays) ops)) own_within ∙ (let e : largest (scratch_room arrays op ∷ []) ≡ scratch_room arrays op = omega arith in e) in
-        let e : sum_by (input_room arrays) (ops_within (inlining p chosen) k) + output_room arrays op ≡ input_room arrays op + output_room arrays op =
-        ap (λ (n : ℕ). n + output_room arrays op) (ap (sum_by (input_room arrays)) own_within ∙ one_sum (input_room arrays) op) in
-        λ t. room_of (a t) (b t) (d t) (e t)
+        let e : sum_by (input_room arrays) (ops_within (inlining p chosen) k) ≡ input_room arrays op =
+        ap (sum_by (input_room arrays)) own_within ∙ one_sum (input_room arrays) op in
+        λ t. room_of (a t) (b t) (d t) (e t) (output_room arrays op)
 
   -- one more array
   module _ (a : ℕ) (at : slice_get (reads_of (op_of p k)) i ≡ Some a) (may : MayBeInlined p k a) where
@@ -137,12 +136,6 @@ module _ (p : PlanView) (s : Sound p) (chosen : ℕ → Bool) (few : StayWithin 
         let off = few b far in
         let other : (b == a) ≡ false = ne_eqb b a (λ e. let l = within in let same = e in omega (arith, l, same, far)) in
         rw (other, off) refl
-
-    too_made : (b : ℕ) → b < length p.arrays → too b ≡ true → maker_at p.arrays b ≢ None
-    too_made b l t = elim (bool_cases (b == a)) [
-      | inl is ↦ subst (λ (x : ℕ). maker_at p.arrays x ≢ None) (sym (eqb-true b a is)) (some_maker (maker_at p.arrays a) may.maker.0 may.maker.1)
-      | inr not_it ↦ made b l (rw not_it at t)
-    ]
 
     off_before : chosen a ≡ false
     off_before = not_chosen i a (omega arith) at
@@ -163,17 +156,8 @@ module _ (p : PlanView) (s : Sound p) (chosen : ℕ → Bool) (few : StayWithin 
       before = earlier (maker_at p.arrays a) may.maker.0 (read_before p s k a read).1 may.maker.1;
     }
 
-    target_is : target_of (op_of p may.maker.0) ≡ a
-    target_is =
-        let writes = (s.makers a may.maker.0 within may.maker.1).1 in
-        let one = (laws_of (op_of p may.maker.0)).one_written may.maker.2 in
-        only_member (target_of (op_of p may.maker.0)) a (subst (λ (l : List ℕ). Contains l a) one writes)
-
-    pub maker_out : output_room (inlining p chosen).arrays (op_of p may.maker.0) ≡ chunk_room (inlining p chosen).arrays a
-    maker_out =
-        (laws_of (op_of p may.maker.0)).one_room (inlining p chosen).arrays may.maker.2 ∙ ap (chunk_room (inlining p chosen).arrays) target_is
-
-    pub grown_room : room_within (inlining p too) k ≡ joined (room_within (inlining p chosen) k) (room_within (inlining p chosen) may.maker.0) (chunk_room (inlining p chosen).arrays a)
+    pub grown_room : room_within (inlining p too) k
+        ≡ joined (room_within (inlining p chosen) k) (room_within (inlining p chosen) may.maker.0)
     grown_room =
         let was = inlining p chosen in
         let now = inlining p too in
@@ -191,12 +175,7 @@ module _ (p : PlanView) (s : Sound p) (chosen : ℕ → Bool) (few : StayWithin 
         sum_alike (input_room now.arrays) (input_room was.arrays) (ops_within now k) (λ op there. same_input_room was.arrays now.arrays layouts op)
         ∙ sum_among (input_room was.arrays) (ops_within now k) (ops_within was k) (ops_within was m) g in
         let v = same_output_room was.arrays now.arrays layouts (op_of p k) in
-        let w = maker_out in
-        let d : sum_by (input_room now.arrays) (ops_within now k) + output_room now.arrays (op_of p k)
-        ≡ sum_by (input_room was.arrays) (ops_within was k) + output_room was.arrays (op_of p k)
-        + (sum_by (input_room was.arrays) (ops_within was m) + output_room was.arrays (op_of p m) - chunk_room was.arrays a) =
-        omega (arith, u, v, w) in
-        λ t. room_of (x t) (y_is t) (z t) (d t)
+        λ t. room_of (x t) (y_is t) (z t) (u t) (v t)
 
     pub room_before : (j : ℕ) → j < k → room_within (inlining p too) j ≡ room_within (inlining p chosen) j
     room_before j l =

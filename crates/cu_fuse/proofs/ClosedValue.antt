@@ -1,37 +1,28 @@
--- The values of a plan that is left after merges are those of the plan.
-use Rattle.std.proofs.Common.{◌≡◌, ◌⊎◌, inl, inr, ℕ, zero, suc, ◌<◌, ◌^◌, Bool, true, List, [], ◌∷◌, ◌++◌, All, Contains, length, map, Option, Some, None, get_or, refl, ap, sym, ◌∙◌, subst, arith, append_assoc, ⊎_elim, ℤ}
+-- What each operation of a plan that is left after merges makes, under the numbers that are left.
+use Rattle.std.proofs.Common.{◌≡◌, ◌⊎◌, inl, inr, ℕ, zero, suc, ◌<◌, true, List, [], ◌∷◌, ◌++◌, All, Contains, length, map, Option, Some, None, get_or, refl, ap, sym, ◌∙◌, subst, arith, append_assoc, ⊎_elim, ℤ}
 use Rattle.std.proofs.lemmas.Option.{get_or_from_slice_get}
 use Rattle.std.proofs.lemmas.List.Elements.{All-contains}
 use Rattle.cu_shape.specs.Index.{IsInside}
-use Rattle.cu_op.specs.declared.layout.ArrayInfo.{ArrayInfo}
 use Rattle.cu_op.specs.declared.layout.Layout.{Layout}
 use Rattle.cu_op.specs.declared.operation.Planned.{Planned}
-use Rattle.cu_op.specs.Arrays.{grid_at, maker_at, AllStored}
+use Rattle.cu_op.specs.Arrays.{grid_at, maker_at}
 use Rattle.cu_op.specs.Operation.{reads_of, writes_of, renumbered}
 use Rattle.cu_op.specs.PlanView.{PlanView}
-use Rattle.cu_op.specs.Sound.{Sound}
 use Rattle.cu_op.specs.Elements.{Elements}
-use Rattle.cu_op.specs.Value.{rule, plan_value}
+use Rattle.cu_op.specs.Value.{rule}
 use Rattle.cu_op.proofs.Members.{contains_any}
-use Rattle.cu_op.proofs.Values.{value_solves}
-use Rattle.cu_fuse.specs.Close.{renumbered_planned, remaining_numbers, new_number, closed, fused_by, setting_by, setting_of, remains, has_maker}
+use Rattle.cu_fuse.specs.Close.{renumbered_planned, remaining_numbers, new_number, closed, setting_of, remains, has_maker}
 use Rattle.std.proofs.lemmas.Bool.{cases_Bool}
-use Rattle.cu_fuse.specs.Fused.{fused_ops, stands_in}
+use Rattle.cu_fuse.specs.Fused.{stands_in}
 use Rattle.cu_fuse.specs.Runs.{HasWriter, CanRun, AreMade}
 use Rattle.cu_fuse.proofs.Running.{written_left, written_right}
 use Rattle.cu_fuse.proofs.Closing.{renumbered_rule, writes_renumbered}
-use Rattle.cu_fuse.proofs.FromSound.{fused_sound}
-use Rattle.cu_fuse.proofs.LeftArrays.{kept_layout, placed, placed_once, within, numbers_in, old_array, was_input}
-use Rattle.cu_fuse.proofs.Unique.{unique}
+use Rattle.cu_fuse.proofs.LeftArrays.{kept_layout, placed, placed_once, within, numbers_in}
 
 -- an array of each operation is left
 abbrev pub AreLeft : List ℕ → List Planned → Type 0
 AreLeft numbers [] = Unit {0}
 AreLeft numbers (o ∷ os) = (All (Contains numbers) (reads_of o.op) × All (Contains numbers) (writes_of o.op)) × AreLeft numbers os
-
--- the number that an array had
-abbrev pub old_number : List ℕ → ℕ → ℕ
-old_number numbers b = get_or numbers b 0
 
 module _ (p : PlanView) (ops : List Planned) (at : Elements) where
   numbers : List ℕ
@@ -104,28 +95,3 @@ all_left p ops before (o ∷ os) e (step, rest) = (
     at_itself [] k d b = absurd (omega arith)
     at_itself (x ∷ xs) zero d b = refl
     at_itself (x ∷ xs) (suc k) d b = at_itself xs k d (omega arith)
-
--- the values of what is left
-pub closed_value : (p : PlanView) (ops : List Planned) (env : Elements) → Sound p → Sound (closed (setting_of p) ops) → CanRun p.arrays p.reserved [] ops → AreMade p.arrays (plan_value p env) ops
-    → (a : ℕ) (idx : List ℕ) → Contains (remaining_numbers p.arrays ops) a → IsInside (grid_at p.arrays a).shape idx
-    → plan_value (closed (setting_of p) ops) (λ b. env (old_number (remaining_numbers p.arrays ops) b)) (new_number (setting_of p) ops a) idx ≡ plan_value p env a idx
-closed_value p ops env sound again run made a idx c inside =
-    let N : List ℕ = remaining_numbers p.arrays ops in
-    let at : Elements = λ b. plan_value p env (get_or N b 0) in
-    let there : IsInside (grid_at (closed (setting_of p) ops).arrays (new_number (setting_of p) ops a)).shape idx = subst (λ (l : Layout). IsInside l.grid.shape idx) (sym (kept_layout p ops a c)) inside in
-    let e : at (new_number (setting_of p) ops a) idx ≡ plan_value p env a idx = ap (λ (m : ℕ). plan_value p env m idx) (get_or_from_slice_get N (new_number (setting_of p) ops a) a 0 (placed p ops a c)) in
-    sym (unique (closed (setting_of p) ops) again (λ b. env (get_or N b 0)) at
-    (λ b i h none ins.
-    let (o, co, is, _, k, arr) = old_array p ops b h in
-    let input : maker_at p.arrays o ≡ None = was_input p ops k o (sym (ap (λ (x : ArrayInfo). x.maker) arr) ∙ none) in
-    ap (λ (m : ℕ). plan_value p env m i) is ∙ (value_solves p env sound).inputs o i input ∙ sym (ap (λ (m : ℕ). env m i) is))
-    (closed_made p ops (plan_value p env) ops (all_left p ops [] ops refl run) made)
-    (new_number (setting_of p) ops a) idx (within p ops a c) there) ∙ e
-
--- so the value of the result of a plan is that of the plan after its merges
-pub fused_value : (once : Bool) (p : PlanView) (env : Elements) → Sound p → AllStored p.arrays → p.allowed < 2 ^ 64 → Sound (fused_by once p) → (a : ℕ) (idx : List ℕ)
-    → Contains (remaining_numbers p.arrays (fused_ops (setting_by once p) p.ops)) a → IsInside (grid_at p.arrays a).shape idx
-    → plan_value (fused_by once p) (λ b. env (old_number (remaining_numbers p.arrays (fused_ops (setting_by once p) p.ops)) b)) (new_number (setting_of p) (fused_ops (setting_by once p) p.ops) a) idx ≡ plan_value p env a idx
-fused_value once p env sound all room again a idx c inside =
-    let (run, made) = fused_sound once p env sound all room in
-    closed_value p (fused_ops (setting_by once p) p.ops) env sound again run made a idx c inside

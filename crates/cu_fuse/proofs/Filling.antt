@@ -26,10 +26,6 @@ module _ {A : Type 0} (g : ℕ → A) (init cur : List A) (k : ℕ) (e : cur ≡
       ap (λ (l : List A). set l k y) (parts d h)
       ∙ set_at (map g (range_with_len 0 k)) (get_or init k d) (drop (k + 1) init) y k (length-map-range_with_len g 0 k) ∙ more y is
 
-  -- an element that is what it is to be
-  pub filled_same : (d : A) → k < length init → get_or init k d ≡ g k → cur ≡ map g (range_with_len 0 (k + 1)) ++ drop (k + 1) init
-  filled_same d h is = parts d h ∙ more (get_or init k d) is
-
   pub filled_all : length init ≡ k → cur ≡ map g (range_with_len 0 k)
   filled_all long =
       e ∙ ap (λ (l : List A). map g (range_with_len 0 k) ++ l) (drop_all k init (omega (arith, long))) ∙ append-nil (map g (range_with_len 0 k))

@@ -4,7 +4,7 @@ use Rattle.cu_fuse.proofs.Chosen.{finished}
 use Rattle.cu_fuse.proofs.Flagged.{array_flagged, from_stored, long, maker_kept, prefix_kept}
 use Rattle.cu_fuse.proofs.InlinedPlans.{need_of, new_flag, stays}
 use Rattle.cu_fuse.specs.Choosing.{all_stored, IsChosenTo}
-use Rattle.cu_fuse.specs.Inlining.{inlined_by, inlining, is_numbered, prefix_where, IsChoice, IsInlinedOf}
+use Rattle.cu_fuse.specs.Inlining.{inlined_by, inlining, is_numbered, prefix_where, IsInlinedOf, IsInliningChoice}
 use Rattle.cu_fuse.specs.Rooms.{room_within}
 use Rattle.cu_fuse.specs.declared.room.Room.{Room}
 use Rattle.cu_name.specs.Keys.{made_prefix_of}
@@ -53,7 +53,7 @@ module _ (c : PlanView) (h : IsChosenTo c (length c.ops) 0) where
   abbrev chosen : ℕ → Bool
   chosen = is_inlined c.arrays
 
-  pub choice_is : IsChoice p chosen
+  pub choice_is : IsInliningChoice p chosen
   choice_is = finished p chosen h.choice
 
   pub needs_fit : (k : ℕ) → k < length c.ops → projection c k < 2 ^ 64
@@ -98,6 +98,6 @@ module _ (c : PlanView) (h : IsChosenTo c (length c.ops) 0) where
       let flags : is_inlined (renamed (with_needs c)).arrays ≡ chosen =
       (λ i a. is_inlined (arrays_same i) a) ∙ (λ i a. new_flag p chosen a (stays p chosen choice_is) i) in
       record {
-        choice = subst (IsChoice p) (sym flags) choice_is;
+        choice = subst (IsInliningChoice p) (sym flags) choice_is;
         plan = plan_same ∙ ap (inlined_by p) (sym flags);
       }

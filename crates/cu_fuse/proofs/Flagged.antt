@@ -77,9 +77,6 @@ flags_are p f few = λ i a. flag_is p f a few i
 
 -- ---- the same plan
 
-with_arrays : PlanView → List ArrayInfo → PlanView
-with_arrays p xs = record p { arrays = xs }
-
 pub flags_alike : (p : PlanView) (f g : ℕ → Bool) → ((a : ℕ) → a < length p.arrays → f a ≡ g a) → inlining p f ≡ inlining p g
 flags_alike p f g h =
     let same : (inlining p f).arrays ≡ (inlining p g).arrays =

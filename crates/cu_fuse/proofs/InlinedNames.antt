@@ -2,7 +2,7 @@
 use Rattle.cu_fuse.proofs.ClosedNames.{behind_most, behind_other, name_short, name_told, prefix_other, prefix_told, IsMadeName, IsOther}
 use Rattle.cu_fuse.proofs.InlinedPlans.{array_is, array_past, arrays_long, new_flag, same_layouts, same_maker, stays}
 use Rattle.cu_fuse.specs.Close.{others_before, HasMadeNames}
-use Rattle.cu_fuse.specs.Inlining.{inlined_by, is_numbered, prefix_where, IsChoice}
+use Rattle.cu_fuse.specs.Inlining.{inlined_by, is_numbered, prefix_where, IsInliningChoice}
 use Rattle.cu_grid.specs.Grid.{IsCoordinate, IsGrid}
 use Rattle.cu_name.specs.Keys.{made_prefix_of}
 use Rattle.cu_op.proofs.Members.{bool_cases}
@@ -149,7 +149,7 @@ module _ (p : PlanView) (chosen : ℕ → Bool) where
     pub output_name : (array_at new.arrays new.out).prefix ≡ (array_at p.arrays p.out).prefix
     output_name = prefix_is p.out s.out ∙ prefix_other_kept p.out (out_not p.out refl)
 
-    module _ (c : IsChoice p chosen) where
+    module _ (c : IsInliningChoice p chosen) where
       stored_is : (a : ℕ) → is_inlined new.arrays a ≡ false → chosen a ≡ false
       stored_is a f = sym (new_flag p chosen a (stays p chosen c)) ∙ f
 

@@ -7,7 +7,7 @@ use Rattle.cu_fuse.proofs.Flagged.{alike, flag_at, flag_past, layouts_kept, long
 use Rattle.cu_fuse.proofs.Inside.{alone, same_projection, same_reads, same_within, AreAlike}
 use Rattle.cu_fuse.proofs.ReadOnce.{place_in, read_earlier}
 use Rattle.cu_fuse.specs.Fused.{stands_in}
-use Rattle.cu_fuse.specs.Inlining.{inlined_by, inlining, prefix_where, reads_before, trial, HasRoom, IsChoice, MayBeInlined}
+use Rattle.cu_fuse.specs.Inlining.{earlier_reads, inlined_by, inlining, prefix_where, trial, FitsOneTask, IsInliningChoice, MayBeInlined}
 use Rattle.cu_op.specs.Arrays.{array_at, is_inlined, maker_at, no_array, AllStored}
 use Rattle.cu_op.specs.Operation.{reads_of, IsBefore}
 use Rattle.cu_op.specs.PlanView.{PlanView, no_operation, op_of, operation_at}
@@ -60,7 +60,7 @@ last_chosen f (x ∷ xs) =
 -- ---- room in an alike plan
 
 room_alike : (p q : PlanView) (s : AreAlike p q) (k : ℕ) → q.allowed ≡ p.allowed
-    → ((j a : ℕ) → j ≤ k → Contains (reads_of (op_of p j)) a → is_inlined q.arrays a ≡ is_inlined p.arrays a) → HasRoom p k → HasRoom q k
+    → ((j a : ℕ) → j ≤ k → Contains (reads_of (op_of p j)) a → is_inlined q.arrays a ≡ is_inlined p.arrays a) → FitsOneTask p k → FitsOneTask q k
 room_alike p q s k allowed agree room =
     let a : sum_by instruction_count (ops_within q k) ≡ sum_by instruction_count (ops_within p k) = ap (sum_by instruction_count) (same_within p q s k agree) in
     let b = same_reads p q s k agree in
@@ -84,9 +84,9 @@ alone_needs p k one =
 
 -- ---- the chosen arrays
 
-module _ (p : PlanView) (chosen : ℕ → Bool) (c : IsChoice p chosen) where
+module _ (p : PlanView) (chosen : ℕ → Bool) (c : IsInliningChoice p chosen) where
   pub chosen_may : (a : ℕ) → chosen a ≡ true
-      → (k : ℕ) × (i : ℕ) × (slice_get (reads_of (op_of p k)) i ≡ Some a) × MayBeInlined p k a × HasRoom (trial p chosen k i a) k
+      → (k : ℕ) × (i : ℕ) × (slice_get (reads_of (op_of p k)) i ≡ Some a) × MayBeInlined p k a × FitsOneTask (trial p chosen k i a) k
   chosen_may a t =
       let (k, read) = some_reader p.ops a (λ none. off_and_on (c.unread a none) t) in
       let (i, at) = place_in (reads_of (op_of p k)) a read in
@@ -117,7 +117,7 @@ module _ (p : PlanView) (chosen : ℕ → Bool) (c : IsChoice p chosen) where
     -- where an operation reads a chosen array, it has room with all that are
     trial_alike : (k i a : ℕ) → maker_at p.arrays a ≢ None → AreAlike (trial p chosen k i a) (inlining p chosen)
     trial_alike k i a some =
-        alike p s (λ b. b == a || (chosen b && stands_in (reads_before p k i) b)) chosen (λ b l t.
+        alike p s (λ b. b == a || (chosen b && stands_in (earlier_reads p k i) b)) chosen (λ b l t.
         elim (bool_cases (b == a)) [
           | inl is ↦ subst (λ (x : ℕ). maker_at p.arrays x ≢ None) (sym (eqb-true b a is)) some
           | inr not_it ↦
@@ -129,7 +129,7 @@ module _ (p : PlanView) (chosen : ℕ → Bool) (c : IsChoice p chosen) where
 
     reads_agree : (k i a : ℕ) → slice_get (reads_of (op_of p k)) i ≡ Some a → chosen a ≡ true
         → ((n b : ℕ) → i < n → slice_get (reads_of (op_of p k)) n ≡ Some b → chosen b ≡ false)
-        → (j b : ℕ) → j ≤ k → Contains (reads_of (op_of p j)) b → chosen b ≡ (b == a || (chosen b && stands_in (reads_before p k i) b))
+        → (j b : ℕ) → j ≤ k → Contains (reads_of (op_of p j)) b → chosen b ≡ (b == a || (chosen b && stands_in (earlier_reads p k i) b))
     reads_agree k i a at on last j b l read =
         elim (bool_cases (b == a)) [
           | inl is ↦ let own : chosen b ≡ true = ap chosen (eqb-true b a is) ∙ on in rw (is, own) refl
@@ -137,7 +137,7 @@ module _ (p : PlanView) (chosen : ℕ → Bool) (c : IsChoice p chosen) where
               elim (bool_cases (chosen b)) [
                 | inr off ↦ rw (not_it, off) refl
                 | inl t ↦
-                    let stands : stands_in (reads_before p k i) b ≡ true = contains_any (reads_before p k i) b (before not_it t) in
+                    let stands : stands_in (earlier_reads p k i) b ≡ true = contains_any (earlier_reads p k i) b (before not_it t) in
                     rw (not_it, t, stands) refl
               ]
         ]
@@ -145,7 +145,7 @@ module _ (p : PlanView) (chosen : ℕ → Bool) (c : IsChoice p chosen) where
         differ : {x : Bool} → x ≡ true → x ≡ false → ⊥
         differ t f = cc
 
-        before : (b == a) ≡ false → chosen b ≡ true → Contains (reads_before p k i) b
+        before : (b == a) ≡ false → chosen b ≡ true → Contains (earlier_reads p k i) b
         before not_it t =
             let (n, found) = place_in (reads_of (op_of p j)) b read in
             elim (cases_lt j k) [
@@ -164,7 +164,7 @@ module _ (p : PlanView) (chosen : ℕ → Bool) (c : IsChoice p chosen) where
                   ]
             ]
 
-    pub room_or_none : (k : ℕ) → ((a : ℕ) → Contains (reads_of (op_of p k)) a → chosen a ≡ false) ⊎ HasRoom (inlining p chosen) k
+    pub room_or_none : (k : ℕ) → ((a : ℕ) → Contains (reads_of (op_of p k)) a → chosen a ≡ false) ⊎ FitsOneTask (inlining p chosen) k
     room_or_none k =
         elim (last_chosen chosen (reads_of (op_of p k))) [
           | inl none ↦ inl (λ a read. let (n, at) = place_in (reads_of (op_of p k)) a read in none n a at)
@@ -172,7 +172,7 @@ module _ (p : PlanView) (chosen : ℕ → Bool) (c : IsChoice p chosen) where
               let i = last.0 in
               let a = last.1 in
               let r = (c.read k i a last.2).0 last.3 in
-              let flags = (λ (b : ℕ). b == a || (chosen b && stands_in (reads_before p k i) b)) in
+              let flags = (λ (b : ℕ). b == a || (chosen b && stands_in (earlier_reads p k i) b)) in
               inr (room_alike (trial p chosen k i a) (inlining p chosen) (trial_alike k i a (is_made (maker_at p.arrays a) r.0.maker.0 r.0.maker.1)) k refl
               (λ j b l read.
               let w = (read_before p s j b read).0 in
@@ -185,7 +185,7 @@ module _ (p : PlanView) (chosen : ℕ → Bool) (c : IsChoice p chosen) where
         (λ a read. flag_at p chosen a (read_before p s k a read).0 ∙ none a read)
 
     -- what an operation needs
-    pub need_of : (k : ℕ) → AllStored p.arrays → (projection (inlining p chosen) k ≡ projection p k) ⊎ HasRoom (inlining p chosen) k
+    pub need_of : (k : ℕ) → AllStored p.arrays → (projection (inlining p chosen) k ≡ projection p k) ⊎ FitsOneTask (inlining p chosen) k
     need_of k stored =
         elim (room_or_none k) [
           | inr room ↦ inr room
@@ -264,7 +264,7 @@ module _ (p : PlanView) (chosen : ℕ → Bool) where
   pub same_node : (k : ℕ) → (operation_at new.ops k).node ≡ (operation_at p.ops k).node
   same_node k = same_operation (λ (x : Planned). x.node) (λ x n. refl) k
 
-  module _ (s : Sound p) (c : IsChoice p chosen) where
+  module _ (s : Sound p) (c : IsInliningChoice p chosen) where
     pub new_alike : AreAlike (inlining p chosen) new
     new_alike = record {
       ops = same_op;
@@ -288,14 +288,14 @@ module _ (p : PlanView) (chosen : ℕ → Bool) where
     pub new_projection : (k : ℕ) → projection new k ≡ projection (inlining p chosen) k
     new_projection k = same_projection (inlining p chosen) new new_alike k (new_agree k)
 
-    pub new_room : (k : ℕ) → HasRoom (inlining p chosen) k → HasRoom new k
+    pub new_room : (k : ℕ) → FitsOneTask (inlining p chosen) k → FitsOneTask new k
     new_room k room = room_alike (inlining p chosen) new new_alike k refl (new_agree k) room
 
     pub projection_is : (k : ℕ) → k < length p.ops → (operation_at new.ops k).projected ≡ projection new k
     projection_is k l = ap (λ (x : Planned). x.projected) (operation_is k l) ∙ sym (new_projection k)
 
-    pub room_fits : (k : ℕ) → k < length p.ops → AllStored p.arrays → p.allowed < 2 ^ 64 → projection new k < 2 ^ 64
-    room_fits k l stored allowed =
+    pub new_fits : (k : ℕ) → k < length p.ops → AllStored p.arrays → p.allowed < 2 ^ 64 → projection new k < 2 ^ 64
+    new_fits k l stored allowed =
         let is = new_projection k in
         let was = s.rooms k l in
         elim (need_of p chosen c s k stored) [

@@ -5,10 +5,10 @@ use Rattle.cu_op.proofs.Members.{any_contains, bool_cases, only_member}
 use Rattle.cu_op.proofs.Plans.{few_regions}
 use Rattle.cu_fuse.proofs.AlikeKinds.{same_by_chunk, same_fits, same_rule, same_tasks, SameLayouts}
 use Rattle.cu_fuse.proofs.InlinedNames.{arrays_are, keys_are}
-use Rattle.cu_fuse.proofs.InlinedPlans.{arrays_long, chosen_may, new_flag, new_room, ops_long, projection_is, room_fits, room_or_none, same_layouts, same_maker, same_op, stays}
+use Rattle.cu_fuse.proofs.InlinedPlans.{arrays_long, chosen_may, new_fits, new_flag, new_room, ops_long, projection_is, room_or_none, same_layouts, same_maker, same_op, stays}
 use Rattle.cu_fuse.proofs.ReadOnce.{only_reader, stands_at, times}
 use Rattle.cu_fuse.specs.Close.{HasMadeNames}
-use Rattle.cu_fuse.specs.Inlining.{inlined_by, read_count, IsChoice}
+use Rattle.cu_fuse.specs.Inlining.{inlined_by, read_count, IsInliningChoice}
 use Rattle.cu_grid.specs.Grid.{RegularGrid}
 use Rattle.cu_op.specs.Arrays.{array_at, array_chunk_count, grid_counts, is_inlined, maker_at, no_array, AllStored}
 use Rattle.cu_op.specs.Cells.{regions_of, task_grid, tasks_of}
@@ -81,7 +81,7 @@ same_values p chosen env =
 
 -- ---- the plan
 
-module _ (p : PlanView) (chosen : ℕ → Bool) (c : IsChoice p chosen) (s : Sound p) (stored : AllStored p.arrays) where
+module _ (p : PlanView) (chosen : ℕ → Bool) (c : IsInliningChoice p chosen) (s : Sound p) (stored : AllStored p.arrays) where
   abbrev new : PlanView
   new = inlined_by p chosen
 
@@ -196,7 +196,7 @@ module _ (p : PlanView) (chosen : ℕ → Bool) (c : IsChoice p chosen) (s : Sou
       record {
         operations = λ k l. subst (IsOperation new.arrays k) (sym (same_op p chosen k)) (is_operation k (operation_within k l));
         projections = λ k l. projection_is p chosen s c k (operation_within k l);
-        rooms = λ k l. room_fits p chosen s c k (operation_within k l) stored allowed;
+        rooms = λ k l. new_fits p chosen s c k (operation_within k l) stored allowed;
         inlined = λ a l t. inlined_is a (array_within a l) (sym (new_flag p chosen a (stays p chosen c)) ∙ t);
         makers = λ a k l made.
             let was = s.makers a k (array_within a l) (sym (same_maker p chosen a) ∙ made) in

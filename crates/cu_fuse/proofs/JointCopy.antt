@@ -21,7 +21,7 @@ use Rattle.cu_op.specs.declared.operation.Op.{Op}
 use Rattle.cu_op.specs.declared.operation.Op.TheVariants.{Copy}
 use Rattle.cu_op.specs.declared.operation.Planned.{Planned}
 use Rattle.cu_op.proofs.Members.{any_contains, contains_any}
-use Rattle.cu_fuse.specs.Copies.{are_copies, copied, copy_sources, has_few_tasks, has_region, is_copy, is_one_pass, joined_copies, joint_copy, joint_copy_op, joint_region, least_between, may_join, most_bytes}
+use Rattle.cu_fuse.specs.Copies.{are_copies, copied_array, copy_sources, has_few_tasks, has_region, is_copy_op, is_one_pass, joined_copies, joint_copy, joint_copy_op, joint_region, least_between, may_join, most_bytes}
 use Rattle.cu_fuse.specs.Fused.{SettingView, has_one_reader, is_between, is_reader, stands_in, stands_once}
 use Rattle.cu_fuse.specs.Runs.{AreMade, CanRun, HasReader, IsAtHand, IsMade, IsNew}
 use Rattle.cu_fuse.specs.Together.{put_together, Joining}
@@ -87,12 +87,12 @@ region_is from to f t same sizes most e =
 -- ---- what the tests say
 
 pub record IsTold (s : SettingView) (maker reader : Planned) (behind : List Planned) (a : ℕ) : Type 0 where
-  pub makes : is_copy maker.op ≡ true
-  pub takes : is_copy reader.op ≡ true
+  pub makes : is_copy_op maker.op ≡ true
+  pub takes : is_copy_op reader.op ≡ true
   pub between : not (a == s.out) ≡ true
   pub read : stands_in (reads_of reader.op) a ≡ true
   pub alone : not (list_any (is_reader a) behind) ≡ true
-  pub region : has_region s (copied maker.op) (target_of reader.op) ≡ true
+  pub region : has_region s (copied_array maker.op) (target_of reader.op) ≡ true
   pub tasks : has_few_tasks s maker reader ≡ true
   pub allowed : nat_le (joint_copy s maker reader).projected s.allowed ≡ true
 
@@ -101,10 +101,10 @@ told s maker reader behind a may =
     let p1 = and_parts (are_copies maker reader) _ may in
     let p2 = and_parts (is_between s a) _ p1.1 in
     let p3 = and_parts (has_one_reader reader behind a) (is_one_pass s maker reader) p2.1 in
-    let kinds = and_parts (is_copy maker.op) (is_copy reader.op) p1.0 in
+    let kinds = and_parts (is_copy_op maker.op) (is_copy_op reader.op) p1.0 in
     let one = and_parts (stands_once (reads_of reader.op) a) (not (list_any (is_reader a) behind)) p3.0 in
     let once = and_parts (stands_in (reads_of reader.op) a) _ one.0 in
-    let pass = and_parts (has_region s (copied maker.op) (target_of reader.op)) _ p3.1 in
+    let pass = and_parts (has_region s (copied_array maker.op) (target_of reader.op)) _ p3.1 in
     let rest = and_parts (has_few_tasks s maker reader) (nat_le (joint_copy s maker reader).projected s.allowed) pass.1 in
     record {
       makes = kinds.0;
@@ -117,7 +117,7 @@ told s maker reader behind a may =
       allowed = rest.1;
     }
 
-copy_is : (op : Op) → is_copy op ≡ true → (region : List ℕ) × (source : ℕ) × (out : ℕ) × (op ≡ Copy region source out)
+copy_is : (op : Op) → is_copy_op op ≡ true → (region : List ℕ) × (source : ℕ) × (out : ℕ) × (op ≡ Copy region source out)
 copy_is (Copy region source out) h = (region, source, out, refl)
 copy_is op h = cc
 
@@ -137,7 +137,7 @@ pub record AreCopies (maker reader : Planned) (a : ℕ) : Type 0 where
   pub makes : maker.op ≡ Copy first source a
   pub takes : reader.op ≡ Copy second a out
 
-pub copies_are : (maker reader : Planned) (a : ℕ) → is_copy maker.op ≡ true → is_copy reader.op ≡ true → stands_in (writes_of maker.op) a ≡ true → stands_in (reads_of reader.op) a ≡ true → AreCopies maker reader a
+pub copies_are : (maker reader : Planned) (a : ℕ) → is_copy_op maker.op ≡ true → is_copy_op reader.op ≡ true → stands_in (writes_of maker.op) a ≡ true → stands_in (reads_of reader.op) a ≡ true → AreCopies maker reader a
 copies_are maker reader a m t w r =
     let (first, source, mid, makes) = copy_is maker.op m in
     let (second, read, out, takes) = copy_is reader.op t in
@@ -159,7 +159,7 @@ module _ (s : SettingView) (maker reader : Planned) (behind : List Planned) (a :
   joint_is = λ i. joint_copy_op s (c.makes i) (c.takes i)
 
   has : has_region s c.source c.out ≡ true
-  has = (λ i. has_region s (copied (sym c.makes i)) (target_of (sym c.takes i))) ∙ t.region
+  has = (λ i. has_region s (copied_array (sym c.makes i)) (target_of (sym c.takes i))) ∙ t.region
 
   pub joint_writes : writes_of (joint_copy s maker reader).op ≡ writes_of reader.op
   joint_writes = ap writes_of joint_is ∙ sym (ap writes_of c.takes)

@@ -10,7 +10,7 @@ use Rattle.cu_name.specs.Name.{IsArrayName}
 use Rattle.cu_op.specs.Arrays.{array_at, AllStored}
 use Rattle.cu_op.specs.PlanView.{PlanView}
 use Rattle.cu_op.specs.Sound.{Sound}
-use Rattle.std.proofs.Common.{◌≡◌, ℕ, ◌^◌, ◌<◌, false, length, ap, sym, ◌∙◌, subst, arith}
+use Rattle.std.proofs.Common.{◌≡◌, ◌^◌, ◌<◌, false, length, ap, sym, ◌∙◌, subst, arith}
 
 module _ (p c : PlanView) (h : IsChosenTo c (length c.ops) 0) (same : all_stored c ≡ p) where
   pub arrays_few : length (with_needs c).arrays < 2 ^ 32
@@ -30,10 +30,6 @@ module _ (p c : PlanView) (h : IsChosenTo c (length c.ops) 0) (same : all_stored
   made_sound names stored =
       sound_is p (renamed (with_needs c)) made_is (subst Sound same h.sound) names stored
       (subst (λ (q : PlanView). q.allowed < 2 ^ 64) same h.allowed)
-
--- all are chosen, from a plan in which all is stored
-pub all_chosen : (start c : PlanView) (n : ℕ) → n ≡ length start.ops → all_stored c ≡ all_stored start → IsChosenTo c n 0 → IsChosenTo c (length c.ops) 0
-all_chosen start c n long same h = subst (λ (m : ℕ). IsChosenTo c m 0) (long ∙ sym (ap (λ (q : PlanView). length q.ops) same)) h
 
 pub stored_start : (p start c : PlanView) → AllStored p.arrays → start ≡ p → all_stored c ≡ all_stored start → all_stored c ≡ p
 stored_start p start c stored is same = same ∙ ap all_stored is ∙ is_stored p stored

@@ -94,9 +94,6 @@ pub record IsMerge (arrays : List ArrayInfo) (inner outer : List Instr) (inner_i
   pub grid : grid_at arrays mid ≡ grid_at arrays out
 
 module _ (arrays : List ArrayInfo) (inner outer : List Instr) (inner_ins outer_ins : List ℕ) (mid out j : ℕ) (m : IsMerge arrays inner outer inner_ins outer_ins mid out j) where
-  merged_load : Elements → List ℕ → ℕ → Option ℤ
-  merged_load at idx k = loaded arrays (put_in j inner_ins outer_ins) at idx k
-
   width_is : length (map (type_at arrays) inner_ins) ≡ length inner_ins
   width_is = length-map inner_ins (type_at arrays)
 

@@ -4,7 +4,7 @@ use Rattle.cu_op.specs.PlanView.{PlanView, no_operation, op_of, operation_at}
 use Rattle.cu_op.specs.declared.operation.Op.{Op}
 use Rattle.cu_op.specs.declared.operation.Planned.{Planned}
 use Rattle.cu_fuse.specs.Choosing.{IsEarlier}
-use Rattle.cu_fuse.specs.Inlining.{read_count, reads_before}
+use Rattle.cu_fuse.specs.Inlining.{earlier_reads, read_count}
 use Rattle.std.proofs.Common.{◌≡◌, ◌≢◌, inl, inr, ℕ, zero, suc, ◌+◌, ◌<◌, ◌≤◌, ◌==◌, List, [], ◌∷◌, ◌++◌, length, take, drop, get_or, Contains, Some, refl, ap, sym, ◌∙◌, subst, arith, Bool, if◌then◌else◌}
 use Rattle.std.specs.List.{count_by, flat_map, slice_get}
 use Rattle.std.specs.Prelude.{sum_by}
@@ -100,12 +100,6 @@ reader_within p k a read =
 part_of : (p : PlanView) (k a : ℕ) → k < length p.ops → times a (reads_of (op_of p k)) ≤ read_count p.ops a
 part_of p k a h = get_or-le-sum_by (λ (o : Planned). times a (reads_of o.op)) p.ops k no_operation h
 
-pub read_some : (p : PlanView) (k a : ℕ) → Contains (reads_of (op_of p k)) a → 1 ≤ read_count p.ops a
-read_some p k a read =
-    let some = stands_some a (reads_of (op_of p k)) read in
-    let part = part_of p k a (reader_within p k a read) in
-    omega (arith, some, part)
-
 module _ (p : PlanView) (a : ℕ) (once : read_count p.ops a ≡ 1) (k : ℕ) (read : Contains (reads_of (op_of p k)) a) where
   parts_of : (times a (reads_of (op_of p k)) ≡ 1) × ((j : ℕ) → j < length p.ops → j ≢ k → times a (reads_of (op_of p j)) ≡ 0)
   parts_of =
@@ -193,7 +187,7 @@ place_in (x ∷ xs) a (zero, l, e) = (0, ap Some e)
 place_in (x ∷ xs) a (suc n, l, e) = let (m, at) = place_in xs a (n, (let w : suc n < suc (length xs) = l in omega arith), e) in (suc m, at)
 
 module _ (p : PlanView) where
-  pub earlier_read : (k i a : ℕ) → Contains (reads_before p k i) a
+  pub earlier_read : (k i a : ℕ) → Contains (earlier_reads p k i) a
       → (j : ℕ) × (n : ℕ) × IsEarlier j n k i × (slice_get (reads_of (op_of p j)) n ≡ Some a)
   earlier_read k i a there =
       elim (Contains-append_cases (flat_map (λ (o : Planned). reads_of o.op) (take k p.ops)) (take i (reads_of (op_of p k))) a there) [
@@ -204,7 +198,7 @@ module _ (p : PlanView) where
       ]
 
   pub read_earlier : (k i a j n : ℕ) → IsEarlier j n k i → slice_get (reads_of (op_of p j)) n ≡ Some a
-      → Contains (reads_before p k i) a
+      → Contains (earlier_reads p k i) a
   read_earlier k i a j n (inl l) at =
       let read = in_at (reads_of (op_of p j)) n a at in
       Contains-append_left (flat_map (λ (o : Planned). reads_of o.op) (take k p.ops)) (take i (reads_of (op_of p k))) a
@@ -215,7 +209,7 @@ module _ (p : PlanView) where
 
   -- an array that one input alone reads isn't read before it
   pub not_before : (k i a : ℕ) → read_count p.ops a ≡ 1 → slice_get (reads_of (op_of p k)) i ≡ Some a
-      → Contains (reads_before p k i) a → ⊥
+      → Contains (earlier_reads p k i) a → ⊥
   not_before k i a once at there =
       let read = in_at (reads_of (op_of p k)) i a at in
       let (j, n, order, found) = earlier_read k i a there in

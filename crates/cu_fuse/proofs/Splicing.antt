@@ -96,10 +96,6 @@ pub assoc_then : {A B C : Type 0} (o : Option A) (f : A → Option B) (g : B →
 assoc_then None f g h e = refl
 assoc_then (Some x) f g h e = e x
 
-pub map_then : {A B C : Type 0} (o : Option A) (f : A → B) (g : B → Option C) → option_and_then g (option_map f o) ≡ option_and_then (λ x. g (f x)) o
-map_then None f g = refl
-map_then (Some x) f g = refl
-
 pub option_cases : {A : Type 0} (o : Option A) → (o ≡ None) ⊎ ((x : A) × (o ≡ Some x))
 option_cases None = inl refl
 option_cases (Some x) = inr (x, refl)

@@ -1,4 +1,5 @@
--- Operations whose arrays have other numbers (this project's own rule): where arrays are taken out of a plan, the numbers behind close up.
+-- Operations whose arrays have other numbers (this project's own rule): where arrays are taken out
+-- of a plan, the numbers behind close up.
 use Rattle.std.specs.Prelude.{◌≡◌, ◌≢◌, ◌<◌, ◌≤◌, length, ℕ, zero, suc, ◌+◌, ◌==◌, Bool, true, false, List, [], ◌∷◌, map, Option, None, Some, if◌then◌else◌}
 use Rattle.std.specs.List.{list_any}
 use Rattle.cu_name.specs.Keys.{made_prefix_of}
@@ -25,7 +26,9 @@ remains ops a (Some maker) = has_maker ops a
 -- the numbers of the arrays that are left, in order; the first of these arrays has number n
 abbrev pub remaining_from : List Planned → ℕ → List ArrayInfo → List ℕ
 remaining_from ops n [] = []
-remaining_from ops n (a ∷ rest) = if remains ops n a.maker then (n ∷ remaining_from ops (n + 1) rest) else remaining_from ops (n + 1) rest
+remaining_from ops n (a ∷ rest) =
+    if remains ops n a.maker then (n ∷ remaining_from ops (n + 1) rest)
+    else remaining_from ops (n + 1) rest
 
 -- those of all arrays
 abbrev pub remaining_numbers : List ArrayInfo → List Planned → List ℕ
@@ -40,7 +43,9 @@ maker_of (o ∷ os) a = if stands_in (writes_of o.op) a then 0 else suc (maker_o
 abbrev pub remaining_array : SettingView → List Planned → ℕ → ℕ → Option ℕ → ArrayInfo
 remaining_array s ops k a None = array_at s.arrays a
 remaining_array s ops k a (Some maker) = record {
-  prefix = if a == s.out then (array_at s.arrays a).prefix else made_prefix_of (array_at s.arrays s.out).prefix k;
+  prefix =
+      if a == s.out then (array_at s.arrays a).prefix
+      else made_prefix_of (array_at s.arrays s.out).prefix k;
   layout = (array_at s.arrays a).layout;
   maker = Some (maker_of ops a);
   inlined = (array_at s.arrays a).inlined;
@@ -54,7 +59,9 @@ count_behind s k a (Some maker) = if a == s.out then k else (k + 1)
 -- the arrays with these numbers, where k made arrays other than the output come before the first
 abbrev pub remaining_arrays : SettingView → List Planned → ℕ → List ℕ → List ArrayInfo
 remaining_arrays s ops k [] = []
-remaining_arrays s ops k (a ∷ rest) = remaining_array s ops k a (maker_at s.arrays a) ∷ remaining_arrays s ops (count_behind s k a (maker_at s.arrays a)) rest
+remaining_arrays s ops k (a ∷ rest) =
+    remaining_array s ops k a (maker_at s.arrays a)
+    ∷ remaining_arrays s ops (count_behind s k a (maker_at s.arrays a)) rest
 
 -- a planned operation over arrays with other numbers
 abbrev pub renumbered_planned : (ℕ → ℕ) → Planned → Planned
@@ -76,7 +83,13 @@ closed s ops = record {
 
 -- what stays of a plan while its operations are merged
 abbrev pub setting_by : Bool → PlanView → SettingView
-setting_by once p = record { arrays = p.arrays; out = p.out; allowed = p.allowed; reserved = p.reserved; once = once }
+setting_by once p = record {
+  arrays = p.arrays;
+  out = p.out;
+  allowed = p.allowed;
+  reserved = p.reserved;
+  once = once;
+}
 
 abbrev pub setting_of : PlanView → SettingView
 setting_of p = setting_by false p
@@ -96,12 +109,13 @@ abbrev pub others_before : PlanView → ℕ → ℕ
 others_before p zero = 0
 others_before p (suc a) = count_behind (setting_of p) (others_before p a) a (maker_at p.arrays a)
 
--- What `fuse` wants of a sound plan: the output has the name of an array, and the other made arrays are called `_cubed/NAME/K`, where K counts
--- them from 0.
+-- What `fuse` wants of a sound plan: the output has the name of an array, and the other made arrays
+-- are called `_cubed/NAME/K`, where K counts them from 0.
 pub record HasMadeNames (p : PlanView) : Type 0 where
   pub named : IsArrayName (array_at p.arrays p.out).prefix
   pub others : (a : ℕ) → a < length p.arrays → maker_at p.arrays a ≢ None → a ≢ p.out
-      → (array_at p.arrays a).prefix ≡ made_prefix_of (array_at p.arrays p.out).prefix (others_before p a)
+      → (array_at p.arrays a).prefix
+      ≡ made_prefix_of (array_at p.arrays p.out).prefix (others_before p a)
 
 -- the first n arrays are the inputs
 pub record HasInputsFirst (p : PlanView) (n : ℕ) : Type 0 where

@@ -20,13 +20,13 @@ use Rattle.cu_fuse.specs.Least.{least_region}
 use Rattle.cu_fuse.specs.Together.{all_together}
 
 -- whether an operation is a copy, and the array that it copies
-abbrev pub is_copy : Op → Bool
-is_copy (Copy region source out) = true
-is_copy op = false
+abbrev pub is_copy_op : Op → Bool
+is_copy_op (Copy region source out) = true
+is_copy_op op = false
 
-abbrev pub copied : Op → ℕ
-copied (Copy region source out) = source
-copied op = 0
+abbrev pub copied_array : Op → ℕ
+copied_array (Copy region source out) = source
+copied_array op = 0
 
 -- ---- the joint copy, from array `source` to array `out`
 
@@ -48,7 +48,8 @@ joint_region s source out =
 -- the second copy with the first, which makes its source; of operations that aren't copies the
 -- second
 abbrev pub joint_copy_op : SettingView → Op → Op → Op
-joint_copy_op s (Copy first source mid) (Copy second read out) = Copy (joint_region s source out) source out
+joint_copy_op s (Copy first source mid) (Copy second read out) =
+    Copy (joint_region s source out) source out
 joint_copy_op s maker reader = reader
 
 -- it belongs to the second one's node
@@ -62,7 +63,7 @@ joint_copy s maker reader = record {
 -- ---- when a copy is joined with the one that made its source
 
 abbrev pub are_copies : Planned → Planned → Bool
-are_copies maker reader = is_copy maker.op && is_copy reader.op
+are_copies maker reader = is_copy_op maker.op && is_copy_op reader.op
 
 -- the least region fits the memory (and no region has more than 2^40 elements, as the array, whose
 -- axes of size 0 count as one, has no more)
@@ -81,7 +82,7 @@ has_few_tasks s maker reader =
 -- a region fits, with no more tasks, and the joint copy needs at most what is allowed
 abbrev pub is_one_pass : SettingView → Planned → Planned → Bool
 is_one_pass s maker reader =
-    has_region s (copied maker.op) (target_of reader.op)
+    has_region s (copied_array maker.op) (target_of reader.op)
     && (has_few_tasks s maker reader && nat_le (joint_copy s maker reader).projected s.allowed)
 
 -- all of this: both are copies, and the array between isn't the output and is read by the second
@@ -96,7 +97,8 @@ may_join s maker reader behind a =
 -- what they copy
 abbrev pub copy_sources : List Planned → List ℕ
 copy_sources [] = []
-copy_sources (o ∷ os) = if is_copy o.op then (copied o.op ∷ copy_sources os) else copy_sources os
+copy_sources (o ∷ os) =
+    if is_copy_op o.op then (copied_array o.op ∷ copy_sources os) else copy_sources os
 
 -- the operations of a plan whose copies are joined
 abbrev pub joined_copies : SettingView → List Planned → List Planned

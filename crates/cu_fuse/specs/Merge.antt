@@ -11,11 +11,18 @@ use Rattle.cu_op.specs.Projection.{own_projection}
 use Rattle.cu_fuse.specs.Runs.{HasReader}
 use Rattle.cu_fuse.specs.Splice.{put_in, spliced}
 
--- the second operation with the first, which makes its input number j, merged in: the first one's kernel stands in place of the load, its
--- inputs in place of the input; of operations that aren't maps the second
+-- the second operation with the first, which makes its input number j, merged in: the first one's
+-- kernel stands in place of the load, its inputs in place of the input; of operations that aren't
+-- maps the second
 abbrev pub merged_op : Op → Op → ℕ → Op
 merged_op (Map inner inner_ins mid) (Map outer outer_ins out) j =
-    Map (record { code = record { items = spliced j (length inner_ins.items) inner.code.items outer.code.items } }) (record { items = put_in j inner_ins.items outer_ins.items }) out
+    Map
+    (record {
+      code = record {
+        items = spliced j (length inner_ins.items) inner.code.items outer.code.items;
+      };
+    })
+    (record { items = put_in j inner_ins.items outer_ins.items }) out
 merged_op maker reader j = reader
 
 -- the maker of an array, its first reader, and the operations between and behind
@@ -32,7 +39,8 @@ apart_ops r = r.maker ∷ (r.between ++ (r.reader ∷ r.behind))
 abbrev pub joined_ops : Around → Planned → List Planned
 joined_ops r both = r.between ++ (both ∷ r.behind)
 
--- the maker is a map whose array the reader alone reads, as its input number j, and the reader is a map over the same grid
+-- the maker is a map whose array the reader alone reads, as its input number j, and the reader is a
+-- map over the same grid
 pub record Joins (arrays : List ArrayInfo) (r : Around) (array j : ℕ) : Type 0 where
   pub inner : Kernel
   pub inner_ins : ArrayVec ℕ
@@ -48,7 +56,8 @@ pub record Joins (arrays : List ArrayInfo) (r : Around) (array j : ℕ) : Type 0
   pub grid : grid_at arrays array ≡ grid_at arrays out
 
 -- the reader with its maker merged in, which belongs to the reader's node
-pub record IsMerged (arrays : List ArrayInfo) (reserved : ℕ) (maker reader both : Planned) (j : ℕ) : Type 0 where
+pub record IsMerged (arrays : List ArrayInfo) (reserved : ℕ) (maker reader both : Planned) (j : ℕ)
+    : Type 0 where
   pub op : both.op ≡ merged_op maker.op reader.op j
   pub node : both.node ≡ reader.node
   pub projected : both.projected ≡ own_projection arrays reserved both.op

@@ -1,5 +1,6 @@
--- Operations that can run one after another, over arrays that keep their numbers while some of them are merged away (this project's own
--- rule). It is what a sound plan says of its operations, without their numbers.
+-- Operations that can run one after another, over arrays that keep their numbers while some of them
+-- are merged away (this project's own rule). It is what a sound plan says of its operations,
+-- without their numbers.
 use Rattle.std.specs.Prelude.{◌≡◌, ◌≢◌, ◌⊎◌, ℕ, ◌^◌, ◌<◌, List, [], ◌∷◌, ◌++◌, All, Contains, length, None}
 use Rattle.cu_shape.specs.Index.{IsInside}
 use Rattle.cu_op.specs.declared.layout.ArrayInfo.{ArrayInfo}
@@ -29,7 +30,8 @@ abbrev pub IsNew : List ArrayInfo → List Planned → ℕ → Type 0
 IsNew arrays before a = (a < length arrays) × (maker_at arrays a ≢ None) × (HasWriter before a → ⊥)
 
 -- the operation can run behind these
-pub record CanFollow (arrays : List ArrayInfo) (reserved : ℕ) (before : List Planned) (o : Planned) : Type 0 where
+pub record CanFollow (arrays : List ArrayInfo) (reserved : ℕ) (before : List Planned) (o : Planned)
+    : Type 0 where
   pub reads : All (IsAtHand arrays before) (reads_of o.op)
   pub writes : All (IsNew arrays before) (writes_of o.op)
   pub fits : Fits arrays o.op
@@ -39,11 +41,14 @@ pub record CanFollow (arrays : List ArrayInfo) (reserved : ℕ) (before : List P
 -- the operations can run behind these, in order
 abbrev pub CanRun : List ArrayInfo → ℕ → List Planned → List Planned → Type 0
 CanRun arrays reserved before [] = Unit {0}
-CanRun arrays reserved before (o ∷ os) = CanFollow arrays reserved before o × CanRun arrays reserved (before ++ o ∷ []) os
+CanRun arrays reserved before (o ∷ os) =
+    CanFollow arrays reserved before o × CanRun arrays reserved (before ++ o ∷ []) os
 
--- these elements are what an operation makes of them, at each index inside what it writes; and what each does
+-- these elements are what an operation makes of them, at each index inside what it writes; and what
+-- each does
 abbrev pub IsMade : List ArrayInfo → Elements → Planned → Type 0
-IsMade arrays at o = (a : ℕ) (idx : List ℕ) → Contains (writes_of o.op) a → IsInside (grid_at arrays a).shape idx → at a idx ≡ rule o.op arrays at a idx
+IsMade arrays at o = (a : ℕ) (idx : List ℕ) → Contains (writes_of o.op) a
+    → IsInside (grid_at arrays a).shape idx → at a idx ≡ rule o.op arrays at a idx
 
 abbrev pub AreMade : List ArrayInfo → Elements → List Planned → Type 0
 AreMade arrays at [] = Unit {0}

@@ -1,4 +1,5 @@
--- A kernel in which another stands in place of what it loads of one of its inputs (this project's own rule).
+-- A kernel in which another stands in place of what it loads of one of its inputs (this project's
+-- own rule).
 use Rattle.std.specs.Prelude.{ℕ, ◌<◌, ◌^◌, ◌+◌, ◌-◌, ◌==◌, nat_lt, List, [], ◌∷◌, ◌++◌, length, map, take, drop, slice_index, if◌then◌else◌}
 use Rattle.cu_op.specs.declared.kernel.Instr.{Instr}
 use Rattle.cu_op.specs.declared.kernel.Instr.TheVariants.{Load, Const, One, Two, Select}
@@ -7,7 +8,8 @@ use Rattle.cu_op.specs.declared.kernel.Instr.TheVariants.{Load, Const, One, Two,
 abbrev pub put_in : {T : Type 0} → ℕ → List T → List T → List T
 put_in j others xs = take j xs ++ (others ++ drop (j + 1) xs)
 
--- the number that input number k, another than j, has where `width` inputs stand in place of number j
+-- the number that input number k, another than j, has where `width` inputs stand in place of number
+-- j
 abbrev pub input_behind : ℕ → ℕ → ℕ → ℕ
 input_behind j width k = if nat_lt k j then k else (k + width - 1)
 
@@ -19,23 +21,30 @@ moved_behind count first (One f t a) = One f t (count + a)
 moved_behind count first (Two f t a b) = Two f t (count + a) (count + b)
 moved_behind count first (Select c a b) = Select (count + c) (count + a) (count + b)
 
--- what stands in place of an instruction: in place of a load of input number j the inner kernel; any other instruction with its
--- arguments where they now stand
+-- what stands in place of an instruction: in place of a load of input number j the inner kernel;
+-- any other instruction with its arguments where they now stand
 abbrev pub in_place : ℕ → ℕ → List Instr → List ℕ → ℕ → Instr → List Instr
-in_place j width inner places count (Load k) = if k == j then map (moved_behind count j) inner else (Load (input_behind j width k) ∷ [])
+in_place j width inner places count (Load k) =
+    if k == j then map (moved_behind count j) inner else (Load (input_behind j width k) ∷ [])
 in_place j width inner places count (Const x) = Const x ∷ []
 in_place j width inner places count (One f t a) = One f t (slice_index places a) ∷ []
-in_place j width inner places count (Two f t a b) = Two f t (slice_index places a) (slice_index places b) ∷ []
-in_place j width inner places count (Select c a b) = Select (slice_index places c) (slice_index places a) (slice_index places b) ∷ []
+in_place j width inner places count (Two f t a b) =
+    Two f t (slice_index places a) (slice_index places b) ∷ []
+in_place j width inner places count (Select c a b) =
+    Select (slice_index places c) (slice_index places a) (slice_index places b) ∷ []
 
--- the rest of a kernel behind `count` instructions, where `places` says where the results of those of its own stand that come before
+-- the rest of a kernel behind `count` instructions, where `places` says where the results of those
+-- of its own stand that come before
 abbrev pub spliced_from : ℕ → ℕ → List Instr → List ℕ → ℕ → List Instr → List Instr
 spliced_from j width inner places count [] = []
 spliced_from j width inner places count (i ∷ is) =
     in_place j width inner places count i
-    ++ spliced_from j width inner (places ++ (count + length (in_place j width inner places count i) - 1) ∷ []) (count + length (in_place j width inner places count i)) is
+    ++ spliced_from j width inner
+    (places ++ (count + length (in_place j width inner places count i) - 1) ∷ [])
+    (count + length (in_place j width inner places count i)) is
 
--- a kernel, in which the inner one, which has `width` inputs, stands in place of each load of input number j
+-- a kernel, in which the inner one, which has `width` inputs, stands in place of each load of input
+-- number j
 abbrev pub spliced : ℕ → ℕ → List Instr → List Instr → List Instr
 spliced j width inner outer = spliced_from j width inner [] 0 outer
 

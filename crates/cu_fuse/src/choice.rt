@@ -1,12 +1,12 @@
 //! Which arrays of a plan are made where they are read.
-ghost use Rattle.std.specs.Prelude.{◌≡◌, ◌==◌, ◌||◌, ℕ, ◌+◌, ◌^◌, ◌<◌, ◌≤◌, All, Contains, IfOk};
+ghost use Rattle.std.specs.Prelude.{◌≡◌, ◌==◌, ◌||◌, ℕ, ◌+◌, ◌^◌, ◌<◌, ◌≤◌, All, IfOk};
 ghost use Rattle.std.specs.Prelude.{IfSome, None, OnOk, OnSome, count_by, if◌then◌else◌, length};
 ghost use Rattle.std.specs.Prelude.{map, set, slice_get, Some};
 ghost use Rattle.std.specs.List.{range_with_len};
-ghost use Rattle.cu_fuse.specs.Choosing.{all_stored, plan_of, IsChosenTo};
+ghost use Rattle.cu_fuse.specs.Choosing.{all_stored, plan_view, IsChosenTo};
 ghost use Rattle.cu_fuse.specs.Inlining.{inlining, is_numbered, prefix_where, read_count};
 ghost use Rattle.cu_fuse.specs.Inlining.{MayBeInlined};
-ghost use Rattle.cu_fuse.specs.Rooms.{own_room, room_within, IsModest};
+ghost use Rattle.cu_fuse.specs.Rooms.{room_within, IsModest};
 ghost use Rattle.cu_name.specs.Keys.{made_prefix_of};
 ghost use Rattle.cu_name.specs.Name.{IsArrayName};
 ghost use Rattle.cu_op.specs.Arrays.{array_at, is_inlined, maker_at};
@@ -14,7 +14,7 @@ ghost use Rattle.cu_op.specs.Operation.{reads_of, target_of};
 ghost use Rattle.cu_op.specs.PlanView.{op_of, operation_at};
 ghost use Rattle.cu_op.specs.Projection.{projection};
 
-use crate::room::{Room, chunk_bytes, joined, own_room};
+use crate::room::{Room, joined, own_room};
 use cu_name::made_prefix;
 use cu_op::{ArrayInfo, Planned};
 use cu_store::Key;
@@ -59,10 +59,10 @@ impl Choice {
         requires array { a < length self.now.arrays.items }
         requires makers { (m : ℕ) → maker_at self.now.arrays.items a ≡ Some m
             → m < length self.now.ops.items }
-        requires target { target_of (op_of (plan_of self.now) k) < length self.now.arrays.items }
+        requires target { target_of (op_of (plan_view self.now) k) < length self.now.arrays.items }
         ensures maker { IfSome result (λ m. maker_at self.now.arrays.items a ≡ Some m) }
-        ensures may { OnSome result (MayBeInlined (plan_of self.now) k a) }
-        ensures none { result ≡ None → MayBeInlined (plan_of self.now) k a → ⊥ }
+        ensures may { OnSome result (MayBeInlined (plan_view self.now) k a) }
+        ensures none { result ≡ None → MayBeInlined (plan_view self.now) k a → ⊥ }
     {
         let maker = self.arrays[a as usize].maker?;
         if a == self.out || !self.ops[maker as usize].op.writes_one_chunk() {
@@ -80,8 +80,8 @@ impl Choice {
     /// Number `i` of the arrays that operation `k` reads.
     fn input(&self, k: u32, i: usize) -> u32
         requires reader { k < length self.now.ops.items }
-        requires within { i < length (reads_of (op_of (plan_of self.now) k)) }
-        ensures { slice_get (reads_of (op_of (plan_of self.now) k)) i ≡ Some result }
+        requires within { i < length (reads_of (op_of (plan_view self.now) k)) }
+        ensures { slice_get (reads_of (op_of (plan_view self.now) k)) i ≡ Some result }
     {
         self.ops[k as usize].op.reads()[i]
     }
@@ -89,37 +89,36 @@ impl Choice {
     /// Makes an array where it is read.
     fn inline_array(&mut self, a: u32)
         requires { a < length self.old.arrays.items }
-        ensures { plan_of self.new
-            ≡ inlining (plan_of self.old) (λ b. b == a || is_inlined self.old.arrays.items b) }
+        ensures { plan_view self.new
+            ≡ inlining (plan_view self.old) (λ b. b == a || is_inlined self.old.arrays.items b) }
     {
         self.arrays[a as usize].inlined = true;
     }
 
-    /// Chooses whether input number `i` of operation `k` is inlined, where operation `k` needs `room`,
-    /// and those before it need `rooms`.
+    /// Chooses whether input number `i` of operation `k` is inlined, where operation `k` needs
+    /// `room`, and those before it need `rooms`.
     fn choose(&mut self, rooms: &[Room], room: Room, k: u32, i: usize) -> Room
-        requires chosen { IsChosenTo (plan_of self.old) k i }
+        requires chosen { IsChosenTo (plan_view self.old) k i }
         requires reader { k < length self.old.ops.items }
-        requires within { i < length (reads_of (op_of (plan_of self.old) k)) }
-        requires room { room ≡ room_within (plan_of self.old) k }
+        requires within { i < length (reads_of (op_of (plan_view self.old) k)) }
+        requires room { room ≡ room_within (plan_view self.old) k }
         requires modest { IsModest room }
-        requires rooms { rooms.now ≡ map (room_within (plan_of self.old)) (range_with_len 0 k) }
+        requires rooms { rooms.now ≡ map (room_within (plan_view self.old)) (range_with_len 0 k) }
         requires modest_rooms { All IsModest rooms.now }
-        ensures chosen { IsChosenTo (plan_of self.new) k (i + 1) }
-        ensures plan { all_stored (plan_of self.new) ≡ all_stored (plan_of self.old) }
-        ensures room { result ≡ room_within (plan_of self.new) k }
+        ensures chosen { IsChosenTo (plan_view self.new) k (i + 1) }
+        ensures plan { all_stored (plan_view self.new) ≡ all_stored (plan_view self.old) }
+        ensures room { result ≡ room_within (plan_view self.new) k }
         ensures modest { IsModest result }
-        ensures rooms { rooms.now ≡ map (room_within (plan_of self.new)) (range_with_len 0 k) }
+        ensures rooms { rooms.now ≡ map (room_within (plan_view self.new)) (range_with_len 0 k) }
     {
         let a = self.input(k, i);
         let Some(maker) = self.maker(k, a) else {
             return room;
         };
-        let chunk = chunk_bytes(&self.arrays, a);
-        let Some(both) = joined(room, rooms[maker as usize], chunk) else {
+        let Some(both) = joined(room, rooms[maker as usize]) else {
             return room;
         };
-        if !both.is_small(self.allowed, self.reserved) {
+        if !both.fits(self.allowed, self.reserved) {
             return room;
         }
         self.inline_array(a);
@@ -128,15 +127,15 @@ impl Choice {
 
     /// Chooses which inputs of operation `k` are inlined, and says what it needs then.
     fn choose_inputs(&mut self, rooms: &[Room], k: u32) -> Room
-        requires chosen { IsChosenTo (plan_of self.old) k 0 }
+        requires chosen { IsChosenTo (plan_view self.old) k 0 }
         requires reader { k < length self.old.ops.items }
-        requires rooms { rooms.now ≡ map (room_within (plan_of self.old)) (range_with_len 0 k) }
+        requires rooms { rooms.now ≡ map (room_within (plan_view self.old)) (range_with_len 0 k) }
         requires modest_rooms { All IsModest rooms.now }
-        ensures chosen { IsChosenTo (plan_of self.new) (k + 1) 0 }
-        ensures plan { all_stored (plan_of self.new) ≡ all_stored (plan_of self.old) }
-        ensures room { result ≡ room_within (plan_of self.new) k }
+        ensures chosen { IsChosenTo (plan_view self.new) (k + 1) 0 }
+        ensures plan { all_stored (plan_view self.new) ≡ all_stored (plan_view self.old) }
+        ensures room { result ≡ room_within (plan_view self.new) k }
         ensures modest { IsModest result }
-        ensures rooms { rooms.now ≡ map (room_within (plan_of self.new)) (range_with_len 0 k) }
+        ensures rooms { rooms.now ≡ map (room_within (plan_view self.new)) (range_with_len 0 k) }
     {
         let count = self.ops[k as usize].op.reads().len();
         let mut room = own_room(&self.arrays, &self.ops[k as usize].op);
@@ -149,11 +148,14 @@ impl Choice {
 
     /// Chooses which arrays are inlined, and says what each operation needs then.
     pub(crate) fn choose_all(&mut self, alloc: Global) -> Result<Vec<Room>, AllocError>
-        requires { IsChosenTo (plan_of self.old) 0 0 }
-        ensures chosen { OnOk result (IsChosenTo (plan_of self.new) (length self.old.ops.items) 0) }
-        ensures plan { OnOk result (all_stored (plan_of self.new) ≡ all_stored (plan_of self.old)) }
+        requires { IsChosenTo (plan_view self.old) 0 0 }
+        ensures chosen { OnOk result
+            (IsChosenTo (plan_view self.new) (length self.old.ops.items) 0) }
+        ensures plan { OnOk result
+            (all_stored (plan_view self.new) ≡ all_stored (plan_view self.old)) }
         ensures rooms { IfOk result (λ rooms. rooms.items
-            ≡ map (room_within (plan_of self.new)) (range_with_len 0 (length self.old.ops.items))) }
+            ≡ map (room_within (plan_view self.new))
+            (range_with_len 0 (length self.old.ops.items))) }
         ensures modest { IfOk result (λ rooms. All IsModest rooms.items) }
     {
         let mut rooms = Vec::new(alloc);
@@ -167,7 +169,7 @@ impl Choice {
     /// Says what an operation needs.
     fn set_projected(&mut self, k: usize, projected: u64)
         requires { k < length self.old.ops.items }
-        ensures { plan_of self.new ≡ record (plan_of self.old) {
+        ensures { plan_view self.new ≡ record (plan_view self.old) {
           ops = set self.old.ops.items k
               (record (operation_at self.old.ops.items k) { projected = projected });
         } }
@@ -178,14 +180,15 @@ impl Choice {
     /// Gives each operation the memory that it needs.
     pub(crate) fn set_needs(&mut self, rooms: &[Room])
         requires rooms { rooms.now
-            ≡ map (room_within (plan_of self.old)) (range_with_len 0 (length self.old.ops.items)) }
+            ≡ map (room_within (plan_view self.old))
+            (range_with_len 0 (length self.old.ops.items)) }
         requires modest { All IsModest rooms.now }
         requires small { (k : ℕ) → k < length self.old.ops.items
-            → projection (plan_of self.old) k < 2 ^ 64 }
-        ensures { plan_of self.new ≡ record (plan_of self.old) {
+            → projection (plan_view self.old) k < 2 ^ 64 }
+        ensures { plan_view self.new ≡ record (plan_view self.old) {
           ops = map
               (λ k. record (operation_at self.old.ops.items k) {
-                projected = projection (plan_of self.old) k;
+                projected = projection (plan_view self.old) k;
               })
               (range_with_len 0 (length self.old.ops.items));
         } }
@@ -200,7 +203,7 @@ impl Choice {
     /// Whether array `a` is made, stored, and not the output.
     fn is_numbered(&self, a: u32) -> bool
         requires { a < length self.now.arrays.items }
-        ensures { result ≡ is_numbered (plan_of self.now) (is_inlined self.now.arrays.items) a }
+        ensures { result ≡ is_numbered (plan_view self.now) (is_inlined self.now.arrays.items) a }
     {
         let array = &self.arrays[a as usize];
         array.maker.is_some() && a != self.out && !array.inlined
@@ -209,7 +212,7 @@ impl Choice {
     /// Gives an array a name.
     fn set_prefix(&mut self, a: u32, prefix: Key)
         requires { a < length self.old.arrays.items }
-        ensures { plan_of self.new ≡ record (plan_of self.old) {
+        ensures { plan_view self.new ≡ record (plan_view self.old) {
           arrays = set self.old.arrays.items a
               (record (array_at self.old.arrays.items a) { prefix = prefix });
         } }
@@ -222,15 +225,15 @@ impl Choice {
         requires array { a < length self.old.arrays.items }
         requires named { IsArrayName name.now }
         requires few { others + 1 < 2 ^ 32 }
-        ensures arrays { plan_of self.new ≡ record (plan_of self.old) {
+        ensures arrays { plan_view self.new ≡ record (plan_view self.old) {
           arrays = set self.old.arrays.items a
               (record (array_at self.old.arrays.items a) {
-                prefix = if is_numbered (plan_of self.old) (is_inlined self.old.arrays.items) a
+                prefix = if is_numbered (plan_view self.old) (is_inlined self.old.arrays.items) a
                     then made_prefix_of name.now others
                     else (array_at self.old.arrays.items a).prefix;
               });
         } }
-        ensures count { result ≡ (if is_numbered (plan_of self.old)
+        ensures count { result ≡ (if is_numbered (plan_view self.old)
             (is_inlined self.old.arrays.items) a then (others + 1) else others) }
     {
         if !self.is_numbered(a) {
@@ -246,10 +249,10 @@ impl Choice {
         requires few { length self.old.arrays.items < 2 ^ 32 }
         requires out { self.old.out < length self.old.arrays.items }
         requires named { IsArrayName (array_at self.old.arrays.items self.old.out).prefix }
-        ensures { plan_of self.new ≡ record (plan_of self.old) {
+        ensures { plan_view self.new ≡ record (plan_view self.old) {
           arrays = map
               (λ a. record (array_at self.old.arrays.items a) {
-                prefix = prefix_where (plan_of self.old) (is_inlined self.old.arrays.items) a;
+                prefix = prefix_where (plan_view self.old) (is_inlined self.old.arrays.items) a;
               })
               (range_with_len 0 (length self.old.arrays.items));
         } }

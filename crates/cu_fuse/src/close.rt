@@ -3,7 +3,8 @@ ghost use Rattle.std.specs.Prelude.{◌≡◌, ◌<◌, ◌^◌, All, IfOk, leng
 ghost use Rattle.cu_name.specs.Name.{IsArrayName};
 ghost use Rattle.cu_op.specs.Arrays.{array_at, maker_at};
 ghost use Rattle.cu_op.specs.Sound.{Sound};
-ghost use Rattle.cu_fuse.specs.Close.{closed, remains, remaining_array, remaining_arrays, remaining_numbers, renumbered_planned};
+ghost use Rattle.cu_fuse.specs.Close.{closed, remains, remaining_array, remaining_arrays};
+ghost use Rattle.cu_fuse.specs.Close.{remaining_numbers, renumbered_planned};
 ghost use Rattle.cu_op.specs.Numbers.{number_in};
 
 use crate::merge::maker_of;
@@ -29,7 +30,8 @@ fn remaining_numbers(
     ops: &[Planned],
 ) -> Result<Vec<u32>, AllocError>
     requires few { length setting.now.arrays < 2 ^ 32 }
-    ensures { IfOk result (λ numbers. numbers.items ≡ remaining_numbers setting.now.arrays ops.now) }
+    ensures { IfOk result (λ numbers. numbers.items
+        ≡ remaining_numbers setting.now.arrays ops.now) }
 {
     let mut numbers = Vec::new(alloc);
     for a in 0..setting.arrays.len() {
@@ -46,7 +48,8 @@ fn remaining_array(setting: &MergeSetting, ops: &[Planned], others: u32, a: u32)
     requires out { setting.now.out < length setting.now.arrays }
     requires named { IsArrayName (array_at setting.now.arrays setting.now.out).prefix }
     requires few { length ops.now < 2 ^ 32 }
-    ensures { result ≡ remaining_array setting.now ops.now others a (maker_at setting.now.arrays a) }
+    ensures { result ≡ remaining_array setting.now ops.now others a
+        (maker_at setting.now.arrays a) }
 {
     let array = setting.arrays[a as usize];
     match array.maker {
@@ -76,7 +79,8 @@ fn remaining_arrays(
     requires named { IsArrayName (array_at setting.now.arrays setting.now.out).prefix }
     requires few { length ops.now < 2 ^ 32 }
     requires few_numbers { length numbers.now < 2 ^ 32 }
-    ensures { IfOk result (λ arrays. arrays.items ≡ remaining_arrays setting.now ops.now 0 numbers.now) }
+    ensures { IfOk result (λ arrays. arrays.items
+        ≡ remaining_arrays setting.now ops.now 0 numbers.now) }
 {
     let mut arrays = Vec::new(alloc);
     let mut others = 0;

@@ -11,7 +11,7 @@ ghost use Rattle.cu_op.specs.Sound.{Sound};
 ghost use Rattle.cu_shape.specs.Index.{product};
 ghost use Rattle.cu_fuse.specs.Close.{HasMadeNames};
 ghost use Rattle.cu_fuse.specs.Copies.{are_copies, copies_joined, copy_sources, has_region};
-ghost use Rattle.cu_fuse.specs.Copies.{is_copy, is_one_pass, joined_copies, joint_copy};
+ghost use Rattle.cu_fuse.specs.Copies.{is_copy_op, is_one_pass, joined_copies, joint_copy};
 ghost use Rattle.cu_fuse.specs.Copies.{joint_region, may_join};
 ghost use Rattle.cu_fuse.specs.Fused.{has_one_reader, stands_in};
 ghost use Rattle.cu_fuse.specs.Runs.{CanRun, IsOverArrays};
@@ -122,7 +122,7 @@ fn joint_copy(setting: &MergeSetting, maker: &Planned, reader: &Planned, a: u32)
 /// Whether the operation is a copy that alone reads the array, where these operations stand behind
 /// it.
 fn is_only_copy(reader: &Planned, behind: &[Planned], a: u32) -> bool
-    ensures { result ≡ (is_copy reader.now.op && has_one_reader reader.now behind.now a) }
+    ensures { result ≡ (is_copy_op reader.now.op && has_one_reader reader.now behind.now a) }
 {
     match &reader.op {
         Op::Copy { source, .. } => *source == a && reader_of(behind, a) == behind.len(),

@@ -1,5 +1,6 @@
 //! A map with the maker of one of its inputs merged in.
-ghost use Rattle.std.specs.Prelude.{◌≡◌, ◌<◌, ◌≤◌, ◌&&◌, ◌^◌, All, IfSome, OnSome, None, false, true, length};
+ghost use Rattle.std.specs.Prelude.{◌≡◌, ◌<◌, ◌≤◌, ◌&&◌, ◌^◌, All, IfSome, OnSome, None, false};
+ghost use Rattle.std.specs.Prelude.{true, length};
 ghost use Rattle.cu_op.specs.Layout.{IsArray};
 ghost use Rattle.cu_op.specs.Operation.{reads_of, writes_of};
 ghost use Rattle.cu_op.specs.Projection.{own_projection};
@@ -17,9 +18,15 @@ pub(crate) fn within_allowed(setting: &MergeSetting, op: Op, node: u32) -> Optio
     requires reads { All (λ a. a < length setting.now.arrays) (reads_of op) }
     requires writes { All (λ a. a < length setting.now.arrays) (writes_of op) }
     requires room { own_projection setting.now.arrays 0 op < 2 ^ 64 }
-    ensures planned { IfSome result (λ o. o ≡ record { op = op; node = node; projected = own_projection setting.now.arrays setting.now.reserved op }) }
-    ensures within { OnSome result (own_projection setting.now.arrays setting.now.reserved op ≤ setting.now.allowed) }
-    ensures over { result ≡ None → setting.now.allowed < own_projection setting.now.arrays setting.now.reserved op }
+    ensures planned { IfSome result (λ o. o ≡ record {
+      op = op;
+      node = node;
+      projected = own_projection setting.now.arrays setting.now.reserved op;
+    }) }
+    ensures within { OnSome result
+        (own_projection setting.now.arrays setting.now.reserved op ≤ setting.now.allowed) }
+    ensures over { result ≡ None
+        → setting.now.allowed < own_projection setting.now.arrays setting.now.reserved op }
 {
     let allowed = setting.allowed;
     let own = own_projection(&setting.arrays, 0, &op);
@@ -36,7 +43,8 @@ pub(crate) fn within_allowed(setting: &MergeSetting, op: Op, node: u32) -> Optio
     })
 }
 
-/// The reader of array `a` with its maker merged in; none where they aren't both maps, or are too much together.
+/// The reader of array `a` with its maker merged in; none where they aren't both maps, or are too
+/// much together.
 pub(crate) fn join(
     setting: &MergeSetting,
     maker: &Planned,
@@ -49,8 +57,11 @@ pub(crate) fn join(
     requires read { stands_in (reads_of reader.now.op) a ≡ true }
     ensures joint { IfSome result (λ both. both ≡ joint setting.now maker.now reader.now a) }
     ensures maps { OnSome result (are_maps maker.now reader.now ≡ true) }
-    ensures small { OnSome result (is_small setting.now (joint setting.now maker.now reader.now a) ≡ true) }
-    ensures none { result ≡ None → (are_maps maker.now reader.now && is_small setting.now (joint setting.now maker.now reader.now a)) ≡ false }
+    ensures small { OnSome result
+        (is_small setting.now (joint setting.now maker.now reader.now a) ≡ true) }
+    ensures none { result ≡ None
+        → (are_maps maker.now reader.now
+        && is_small setting.now (joint setting.now maker.now reader.now a)) ≡ false }
 {
     one_map_law();
     match &maker.op {

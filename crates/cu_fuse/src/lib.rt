@@ -1,4 +1,5 @@
-//! Fusion: a map whose result one other map alone reads is computed in that map, copies are joined, and arrays are made where they are read.
+//! Fusion: a map whose result one other map alone reads is computed in that map, copies are joined,
+//! and arrays are made where they are read.
 #![tactic(auto)]
 
 mod choice;

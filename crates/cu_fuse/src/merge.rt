@@ -1,10 +1,13 @@
 //! The merges of a plan's maps, one array after another.
-ghost use Rattle.std.specs.Prelude.{◌≡◌, ◌<◌, ◌≤◌, ◌&&◌, ◌^◌, All, IfOk, IfSome, OnOk, OnSome, None, [], false, true, length};
+ghost use Rattle.std.specs.Prelude.{◌≡◌, ◌<◌, ◌≤◌, ◌&&◌, ◌^◌, All, IfOk, IfSome, OnOk, OnSome};
+ghost use Rattle.std.specs.Prelude.{None, [], false, true, length};
 ghost use Rattle.cu_op.specs.Layout.{IsArray};
 ghost use Rattle.cu_op.specs.Arrays.{grid_at};
 ghost use Rattle.cu_op.specs.Operation.{reads_of, writes_of};
 ghost use Rattle.cu_fuse.specs.Close.{maker_of};
-ghost use Rattle.cu_fuse.specs.Fused.{fused_ops, has_one_reader, is_map, joint, map_inputs, may_merge, merged_all, merged_away, reader_of, same_grid, stands_in};
+ghost use Rattle.cu_fuse.specs.Fused.{fused_ops, has_one_reader, is_map, joint, map_inputs};
+ghost use Rattle.cu_fuse.specs.Fused.{may_merge, merged_all, merged_away, reader_of, same_grid};
+ghost use Rattle.cu_fuse.specs.Fused.{stands_in};
 ghost use Rattle.cu_fuse.specs.Runs.{CanRun, IsOverArrays};
 
 use crate::inputs::{stands_in, stands_once};
@@ -28,7 +31,8 @@ fn writes(op: &Op, a: u32) -> bool
     stands_in(op.writes().as_slice(), a)
 }
 
-/// The number of the first operation that writes the array, and how many operations there are where none does.
+/// The number of the first operation that writes the array, and how many operations there are where
+/// none does.
 pub(crate) fn maker_of(ops: &[Planned], a: u32) -> usize
     ensures number { result ≡ maker_of ops.now a }
     ensures within { result ≤ length ops.now }
@@ -43,7 +47,8 @@ pub(crate) fn maker_of(ops: &[Planned], a: u32) -> usize
     number
 }
 
-/// The number of the first operation that reads the array, and how many operations there are where none does.
+/// The number of the first operation that reads the array, and how many operations there are where
+/// none does.
 pub(crate) fn reader_of(ops: &[Planned], a: u32) -> usize
     ensures number { result ≡ reader_of ops.now a }
     ensures within { result ≤ length ops.now }
@@ -58,7 +63,8 @@ pub(crate) fn reader_of(ops: &[Planned], a: u32) -> usize
     number
 }
 
-/// Whether the operation is a map of which one input alone reads the array, where these operations stand behind it.
+/// Whether the operation is a map of which one input alone reads the array, where these operations
+/// stand behind it.
 fn has_one_reader(reader: &Planned, behind: &[Planned], a: u32) -> bool
     ensures { result ≡ (is_map reader.now.op && has_one_reader reader.now behind.now a) }
 {
@@ -81,7 +87,8 @@ fn same_grid(arrays: &[ArrayInfo], a: u32, b: u32) -> bool
     one.shape().is(other.shape()) && one.chunk().is(other.chunk())
 }
 
-/// The reader of array `a` with its maker merged in, where these operations stand behind it; none where they aren't to be merged.
+/// The reader of array `a` with its maker merged in, where these operations stand behind it; none
+/// where they aren't to be merged.
 fn merged_reader(
     setting: &MergeSetting,
     maker: &Planned,
@@ -95,7 +102,8 @@ fn merged_reader(
     requires array { a < length setting.now.arrays }
     requires read { stands_in (reads_of reader.now.op) a ≡ true }
     ensures joint { IfSome result (λ both. both ≡ joint setting.now maker.now reader.now a) }
-    ensures merges { OnSome result (may_merge setting.now maker.now reader.now behind.now a ≡ true) }
+    ensures merges { OnSome result
+        (may_merge setting.now maker.now reader.now behind.now a ≡ true) }
     ensures none { result ≡ None → may_merge setting.now maker.now reader.now behind.now a ≡ false }
 {
     if a == setting.out || !has_one_reader(reader, behind, a) {
@@ -142,7 +150,8 @@ fn map_inputs(alloc: Global, ops: &[Planned]) -> Result<Vec<u32>, AllocError>
     Ok(inputs)
 }
 
-/// Merges makers into their readers, where they are to be merged: the inputs of the maps are taken in order.
+/// Merges makers into their readers, where they are to be merged: the inputs of the maps are taken
+/// in order.
 fn merge_all(
     alloc: Global,
     setting: &MergeSetting,
@@ -151,7 +160,8 @@ fn merge_all(
     requires arrays { All IsArray setting.now.arrays }
     requires run { CanRun setting.now.arrays setting.now.reserved [] ops.old.items }
     requires allowed { setting.now.allowed < 2 ^ 64 }
-    ensures { OnOk result (ops.new.items ≡ merged_all setting.now (map_inputs ops.old.items) ops.old.items) }
+    ensures { OnOk result (ops.new.items
+        ≡ merged_all setting.now (map_inputs ops.old.items) ops.old.items) }
 {
     let inputs = map_inputs(alloc, ops)?;
     for a in &inputs {
@@ -160,7 +170,8 @@ fn merge_all(
     Ok(())
 }
 
-/// Gives each operation one load of each array, where maps load an array once, and merges makers into their readers.
+/// Gives each operation one load of each array, where maps load an array once, and merges makers
+/// into their readers.
 pub(crate) fn merge_maps(
     alloc: Global,
     setting: &MergeSetting,

@@ -1,8 +1,8 @@
 use cu_op::ArrayInfo;
 use std::marker::Model;
 
-/// What stays while the operations of a plan are merged: the arrays, the number of the output, the bytes of memory that are allowed and
-/// reserved, and whether maps load an array once.
+/// What stays while the operations of a plan are merged: the arrays, the number of the output, the
+/// bytes of memory that are allowed and reserved, and whether maps load an array once.
 #[derive(Drop)]
 pub(crate) struct MergeSetting {
     pub(crate) arrays: Vec<ArrayInfo>,
@@ -17,5 +17,11 @@ impl Model for MergeSetting {
 
     ghost Value = { SettingView };
 
-    ghost view = { λ s. record { arrays = s.arrays.items; out = s.out; allowed = s.allowed; reserved = s.reserved; once = s.once } };
+    ghost view = { λ s. record {
+      arrays = s.arrays.items;
+      out = s.out;
+      allowed = s.allowed;
+      reserved = s.reserved;
+      once = s.once;
+    } };
 }

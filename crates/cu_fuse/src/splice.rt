@@ -1,12 +1,14 @@
 //! A kernel in place of the loads of one input of another.
 ghost use Rattle.std.specs.Prelude.{◌≡◌, ◌+◌, ◌<◌, ◌≤◌, ◌++◌, All, length, map};
-ghost use Rattle.cu_fuse.specs.Splice.{AreNumbersBelow, moved_behind, in_place, input_behind, spliced};
+ghost use Rattle.cu_fuse.specs.Splice.{AreNumbersBelow, moved_behind, in_place, input_behind};
+ghost use Rattle.cu_fuse.specs.Splice.{spliced};
 
 use crate::inputs::number_at;
 use arrayvec::ArrayVec;
 use cu_op::Instr;
 
-/// A kernel that stands in place of the loads of input number `input`, and has `width` inputs itself.
+/// A kernel that stands in place of the loads of input number `input`, and has `width` inputs
+/// itself.
 #[derive(Clone, Copy)]
 pub(crate) struct Inner<'a> {
     pub(crate) input: u32,
@@ -49,7 +51,8 @@ fn push_inner(inner: Inner<'_>, code: &mut ArrayVec<Instr, 1024>)
     requires inner { length inner.code.now ≤ 32 }
     requires input { inner.input ≤ 8 }
     requires small { All AreNumbersBelow inner.code.now }
-    ensures { code.new.items ≡ code.old.items ++ map (moved_behind (length code.old.items) inner.entry.input) inner.entry.code.now }
+    ensures { code.new.items ≡ code.old.items
+        ++ map (moved_behind (length code.old.items) inner.entry.input) inner.entry.code.now }
 {
     let count = code.len();
     for instr in inner.code {
@@ -66,7 +69,9 @@ fn push_in_place(inner: Inner<'_>, places: &[u32], instr: Instr, code: &mut Arra
     requires width { inner.width ≤ 8 }
     requires small { All AreNumbersBelow inner.code.now }
     requires own { AreNumbersBelow instr }
-    ensures code { code.new.items ≡ code.old.items ++ in_place inner.entry.input inner.entry.width inner.entry.code.now places.now (length code.old.items) instr }
+    ensures code { code.new.items ≡ code.old.items
+        ++ in_place inner.entry.input inner.entry.width inner.entry.code.now places.now
+        (length code.old.items) instr }
     ensures longer { length code.old.items < length code.new.items }
     ensures few { length code.new.items ≤ length code.old.items + 32 }
 {
@@ -103,7 +108,8 @@ pub(crate) fn spliced(inner: Inner<'_>, outer: &[Instr]) -> ArrayVec<Instr, 1024
     requires few { length outer.now ≤ 32 }
     requires small { All AreNumbersBelow inner.code.now }
     requires own { All AreNumbersBelow outer.now }
-    ensures code { result.items ≡ spliced inner.entry.input inner.entry.width inner.entry.code.now outer.now }
+    ensures code { result.items
+        ≡ spliced inner.entry.input inner.entry.width inner.entry.code.now outer.now }
     ensures few { length result.items ≤ 1024 }
 {
     let mut code = ArrayVec::new();

@@ -7,6 +7,7 @@ pub mod Running
 pub mod StripResults
 pub mod Pieces
 pub mod CallValues
+pub mod Extremes
 pub mod RowResults
 pub mod RowSteps
 pub mod FirstPlaces

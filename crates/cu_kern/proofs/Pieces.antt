@@ -132,6 +132,18 @@ values_more t out new done count all size value own within whole same before aft
         has_value_same t (put_mid a (e - a) out new) new k j (value k) (bytes_inside t a (e - a) out new k j at room inside) (subst P sum (after j (omega arith))))
         (cases_lt k done)
 
+-- the same of places from `from` on
+pub values_from : (t : Dtype) (out new : List ℕ) (from done count all size : ℕ) (value : ℕ → Option ℤ) → size ≡ size_of t → done + count ≤ all → length out ≡ all * size_of t
+    → length new ≡ length (between (done * size) ((done + count) * size) out) → ((k : ℕ) → k < done → HasValue t out k (value (from + k))) → ((j : ℕ) → j < count → HasValue t new j (value (from + done + j)))
+    → (length (put_mid (done * size) ((done + count) * size - done * size) out new) ≡ length out)
+    × ((k : ℕ) → k < done + count → HasValue t (put_mid (done * size) ((done + count) * size - done * size) out new) k (value (from + k)))
+values_from t out new from done count all size value own within whole same before after =
+    values_more t out new done count all size (λ k. value (from + k)) own within whole same before
+    (λ j b.
+    let P : ℕ → Type 0 = λ q. HasValue t new j (value q) in
+    let sum : from + done + j ≡ from + (done + j) = omega arith in
+    subst P sum (after j b))
+
 -- a number of the type that a conversion to the type writes
 pub copied_value : (t : Dtype) (bytes : List ℕ) (k : ℕ) (x y : ℤ) → InRange t y → x ≡ y → bytes_at t bytes k ≡ element_bytes Little t (wrapped t x) → HasValue t bytes k (Some y)
 copied_value t bytes k x y range e is = (range, is ∙ ap (λ x. element_bytes Little t (wrapped t x)) e ∙ ap (element_bytes Little t) (wrapped_in_range t y range))

@@ -1,7 +1,7 @@
 -- What a step over the rows of earlier steps reads and leaves.
 use Rattle.std.proofs.Common.{◌≡◌, ◌≢◌, ℕ, ◌+◌, ◌*◌, ◌<◌, ◌≤◌, suc, List, length, ◌++◌, drop, get_or, Option, None, Some, IfSome, IsTrue, Bool as Test, refl, ap, sym, ◌∙◌, subst, arith, ℤ, pos, length-append}
 use Rattle.std.specs.List.{slice_get}
-use Rattle.std.proofs.lemmas.Option.{slice_get-get_or}
+use Rattle.std.proofs.lemmas.Option.{same_Some, slice_get-get_or}
 use Rattle.std.proofs.Math.Nat.{mul-le-mul_right}
 use Rattle.std.specs.Option.{option_map, option_and_then}
 use Rattle.cu_num.specs.Dtype.{size_of, InRange}
@@ -23,10 +23,10 @@ use Rattle.cu_op.specs.declared.kernel.Instr.TheVariants.{Load, Const, One, Two,
 use Rattle.cu_op.specs.Kernel.{selected}
 use Rattle.cu_kern.specs.declared.calls.Call.TheVariants as call
 use Rattle.cu_kern.specs.Lays.{HasValue}
-use Rattle.cu_kern.proofs.CallValues.{value_in_range}
+use Rattle.cu_kern.proofs.CallValues.{selected_in_range}
 use Rattle.cu_kern.specs.declared.rows.Row.{Row}
-use Rattle.cu_kern.specs.Rows.{Rows, Stands, HasElement, HasStepResults, HasResultsOf, HasSameElements}
-use Rattle.cu_kern.specs.Strips.{Strip, strip, strip_element, HasPlaces, HasResults}
+use Rattle.cu_kern.specs.Rows.{Rows, Stands, HasElement, HasStepResults, HasResultsOf, HasSameElements, IsExtreme}
+use Rattle.cu_kern.specs.Strips.{Strip, strip, strip_element, extreme, HasPlaces, HasResults}
 use Rattle.cu_kern.proofs.Parts.{size_most}
 use Rattle.cu_kern.proofs.RowSteps.{element_in_front}
 
@@ -41,18 +41,18 @@ pub if_some_of_three : {T : Type 0} (o : Option T) (P Q R S : T → Type 0) → 
 if_some_of_three None P Q R S f p q r = tt
 if_some_of_three (Some x) P Q R S f p q r = f x p q r
 
-result_there : (r : Rows) (load : ℕ → Option ℤ) (k a : ℕ) (results : List ℤ) → HasStepResults r load k results → a < r.number → slice_get results a ≡ Some (get_or results a (pos 0))
+pub result_there : (r : Rows) (load : ℕ → Option ℤ) (k a : ℕ) (results : List ℤ) → HasStepResults r load k results → a < r.number → slice_get results a ≡ Some (get_or results a (pos 0))
 result_there r load k a results h b = let done = h.done in slice_get-get_or results a (pos 0) (omega arith)
 
-in_row : (i : Instr) (kept : Test) (load : ℕ → Option ℤ) (x : ℤ) (InRow : Type 0) → ((y : ℤ) → i ≢ Const y) → ((j : ℕ) → i ≡ Load j → IsTrue kept) → Stands i kept load x InRow → InRow
-in_row (Load j) kept load x InRow other held h = h.1 (held j refl)
+in_row : (i : Instr) (kept : Test) (load : ℕ → Option ℤ) (x : ℤ) (InRow : Type 0) → ((y : ℤ) → i ≢ Const y) → IsTrue kept → Stands i kept load x InRow → InRow
+in_row (Load j) kept load x InRow other held h = h.1 held
 in_row (Const y) kept load x InRow other held h = absurd (other y refl)
-in_row (One f s a) kept load x InRow other held h = h
-in_row (Two f s a b) kept load x InRow other held h = h
-in_row (Select c a b) kept load x InRow other held h = h
+in_row (One f s a) kept load x InRow other held h = h held
+in_row (Two f s a b) kept load x InRow other held h = h held
+in_row (Select c a b) kept load x InRow other held h = h held
 
 pub row_results : (r : Rows) (loads : ℕ → ℕ → Option ℤ) (count a : ℕ) (i : Instr) (row : Row) (t : Dtype) (s : Strip) → a < r.number → slice_get r.code a ≡ Some i → slice_get r.rows a ≡ Some row → ((y : ℤ) → i ≢ Const y)
-    → ((j : ℕ) → i ≡ Load j → IsTrue row.kept) → HasPlaces t s count → ((k : ℕ) → k < count → strip_element t s k ≡ element_at Little row.dtype (drop row.at r.bytes) k) → HasResultsOf r loads count a t s
+    → IsTrue row.kept → HasPlaces t s count → ((k : ℕ) → k < count → strip_element t s k ≡ element_at Little row.dtype (drop row.at r.bytes) k) → HasResultsOf r loads count a t s
 row_results r loads count a i row t s b code own other held places same = record {
   places = places;
   elements = λ k results below stand.
@@ -139,4 +139,17 @@ select_computed t out k c a b results s x y e h g low high is =
     let P : Option ℤ → Type 0 = λ o. HasValue t out k (option_and_then (λ s. option_and_then (λ x. option_map (selected s x) (slice_get results b)) (slice_get results a)) o) in
     let Q : Option ℤ → Type 0 = λ o. HasValue t out k (option_and_then (λ x. option_map (selected s x) (slice_get results b)) o) in
     let R : Option ℤ → Type 0 = λ o. HasValue t out k (option_map (selected s x) o) in
-    subst P (sym e) (subst Q (sym h) (subst R (sym g) (value_in_range (call.Select t) s x y low high, is)))
+    subst P (sym e) (subst Q (sym h) (subst R (sym g) (selected_in_range t s x y low high, is)))
+
+-- an extreme is the choice of its arguments by the comparison that the condition is
+pub extreme_computed : (r : Rows) (load : ℕ → Option ℤ) (least : Test) (f : Fn2) (t : Dtype) (out : List ℕ) (k c a b : ℕ) (results : List ℤ) (x y : ℤ) → HasStepResults r load k results → c < r.number
+    → slice_get r.code c ≡ Some (Two f t a b) → IsExtreme least f → slice_get results a ≡ Some x → slice_get results b ≡ Some y → InRange t x → InRange t y → bytes_at t out k ≡ element_bytes Little t (extreme least x y)
+    → HasValue t out k (option_and_then (λ s. option_and_then (λ x. option_map (selected s x) (slice_get results b)) (slice_get results a)) (slice_get results c))
+extreme_computed r load least f t out k c a b results x y stand before compares same h g low high is =
+    let s = get_or results c (pos 0) in
+    let there = result_there r load k c results stand before in
+    let compared : option_and_then (λ x. option_map (op2 f t x) (slice_get results b)) (slice_get results a) ≡ Some (op2 f t x y) =
+    ap (option_and_then (λ x. option_map (op2 f t x) (slice_get results b))) h ∙ ap (option_map (op2 f t x)) g in
+    let value : s ≡ op2 f t x y = same_Some s (op2 f t x y) (sym (stand.values c s (Two f t a b) there compares) ∙ compared) in
+    select_computed t out k c a b results s x y there h g low high
+    (is ∙ ap (element_bytes Little t) (sym (same t x y) ∙ ap (λ s. selected s x y) (sym value)))

@@ -5,16 +5,18 @@ use Rattle.std.specs.List.{slice_get}
 use Rattle.std.specs.Option.{option_and_then}
 use Rattle.cu_num.specs.Dtype.{size_of}
 use Rattle.cu_num.specs.Element.{element_at}
+use Rattle.cu_num.specs.Scalar.{op2}
+use Rattle.cu_num.specs.declared.functions.Fn2.{Fn2}
 use Rattle.cu_num.specs.declared.types.Dtype.{Dtype}
 use Rattle.cu_num.specs.declared.layout.Endian.TheVariants.{Little}
 use Rattle.cu_op.specs.declared.kernel.Instr.{Instr}
 use Rattle.cu_op.specs.declared.kernel.Instr.TheVariants.{Load, Const, One, Two, Select}
-use Rattle.cu_op.specs.Kernel.{instruction_value, results_from, last_of, kernel_value}
+use Rattle.cu_op.specs.Kernel.{instruction_value, results_from, last_of, kernel_value, selected}
 use Rattle.cu_kern.specs.declared.rows.Row.{Row}
 use Rattle.cu_kern.specs.declared.lays.Lay.{Lay}
 use Rattle.cu_kern.specs.Lays.{HasValue}
 use Rattle.cu_kern.specs.Steps.{loaded_by_place}
-use Rattle.cu_kern.specs.Strips.{Strip, HasPlaces, strip_element}
+use Rattle.cu_kern.specs.Strips.{Strip, HasPlaces, strip_element, extreme}
 
 -- the steps of a kernel, their rows, and the first bytes of the bank, which the rows of the first `number` steps fill
 pub record Rows : Type 0 where
@@ -39,17 +41,18 @@ loads_along lays ins dims from k = loaded_by_place lays ins dims (from + k)
 abbrev pub HasElement : Dtype → ℕ → ℕ → List ℕ → ℕ → ℤ → Type 0
 HasElement t at filled bytes k x = (at + (k * size_of t + size_of t) ≤ filled) × (element_at Little t (drop at bytes) k ≡ x)
 
--- a step's result: a literal is its own, what is loaded is the region's, and the others stand in the row, as does what is loaded where one is kept
+-- a step's result: a literal is its own, what is loaded is the region's, and where a row is kept it stands there, but for a literal
 abbrev pub Stands : Instr → Bool → (ℕ → Option ℤ) → ℤ → Type 0 → Type 0
 Stands (Const y) kept load x InRow = x ≡ y
 Stands (Load j) kept load x InRow = (load j ≡ Some x) × (IsTrue kept → InRow)
-Stands (One f t a) kept load x InRow = InRow
-Stands (Two f t a b) kept load x InRow = InRow
-Stands (Select c a b) kept load x InRow = InRow
+Stands (One f t a) kept load x InRow = IsTrue kept → InRow
+Stands (Two f t a b) kept load x InRow = IsTrue kept → InRow
+Stands (Select c a b) kept load x InRow = IsTrue kept → InRow
 
--- the results of the first steps at place k stand in their rows
+-- the results of the first steps at place k: each is its step's value over them, and they stand in their rows
 pub record HasStepResults (r : Rows) (load : ℕ → Option ℤ) (k : ℕ) (results : List ℤ) : Type 0 where
   pub done : length results ≡ r.number
+  pub values : (a : ℕ) (x : ℤ) (i : Instr) → slice_get results a ≡ Some x → slice_get r.code a ≡ Some i → instruction_value i load results ≡ Some x
   pub each : (a : ℕ) (x : ℤ) (i : Instr) (s : Row) → slice_get results a ≡ Some x → slice_get r.code a ≡ Some i → slice_get r.rows a ≡ Some s → Stands i s.kept load x (HasElement s.dtype s.at r.filled r.bytes k x)
 
 -- at each place of `out` there is the step's value over the results that stand in the rows
@@ -84,3 +87,15 @@ pub record HasResultsOf (r : Rows) (loads : ℕ → ℕ → Option ℤ) (count a
 pub record HasSameElements (from : Dtype) (x : Strip) (t : Dtype) (y : Strip) (count : ℕ) : Type 0 where
   pub places : HasPlaces t y count
   pub same : (k : ℕ) → k < count → strip_element t y k ≡ strip_element from x k
+
+-- what a step reads is there: a region, or the results of earlier steps
+abbrev pub ReadsEarlier : Instr → ℕ → ℕ → Type 0
+ReadsEarlier (Load j) lays number = j < lays
+ReadsEarlier (Const y) lays number = Unit {0}
+ReadsEarlier (One f t a) lays number = a < number
+ReadsEarlier (Two f t a b) lays number = (a < number) × (b < number)
+ReadsEarlier (Select c a b) lays number = (c < number) × (a < number) × (b < number)
+
+-- the first of two numbers where the function of both is 1, else the second, is the least of them, or else the greatest
+abbrev pub IsExtreme : Bool → Fn2 → Type 0
+IsExtreme least f = (t : Dtype) (x y : ℤ) → selected (op2 f t x y) x y ≡ extreme least x y

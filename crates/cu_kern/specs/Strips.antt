@@ -1,5 +1,7 @@
 -- Elements along a run of places of the result, as bytes: the next place reads the next element, or where the step is 0 the same.
-use Rattle.std.specs.Prelude.{◌≡◌, ℕ, ◌+◌, ◌*◌, ◌/◌, ◌<◌, ◌≤◌, ℤ, List, length}
+use Rattle.std.specs.Prelude.{◌≡◌, ℕ, ◌+◌, ◌*◌, ◌/◌, ◌<◌, ◌≤◌, ℤ, List, length, if◌then◌else◌}
+use Rattle.std.specs.Prelude.{Bool as Test}
+use Rattle.std.specs.Int.{int_min, int_max}
 use Rattle.cu_num.specs.Dtype.{size_of}
 use Rattle.cu_num.specs.Element.{element_at, element_bytes, bytes_at}
 use Rattle.cu_num.specs.Scalar.{op1, op2, result_type1, result_type2}
@@ -9,29 +11,37 @@ use Rattle.cu_num.specs.declared.layout.Endian.TheVariants.{Little}
 use Rattle.cu_op.specs.Kernel.{selected}
 use Rattle.cu_op.specs.KernelTypes.{IsArgument}
 use Rattle.cu_kern.specs.declared.calls.Call.{Call}
-use Rattle.cu_kern.specs.declared.calls.Call.TheVariants.{One, Two, Select}
+use Rattle.cu_kern.specs.declared.calls.Call.TheVariants.{One, Two, Select, Extreme}
 
 -- the type of a call's first argument, and that of the others, which a call of one argument has in name alone
 abbrev pub first_type : Call → Dtype
 first_type (One f from t) = from
 first_type (Two f t) = t
 first_type (Select t) = Bool
+first_type (Extreme least t) = t
 
 abbrev pub other_type : Call → Dtype
 other_type (One f from t) = from
 other_type (Two f t) = t
 other_type (Select t) = t
+other_type (Extreme least t) = t
+
+-- the least of two numbers, or else the greatest
+abbrev pub extreme : Test → ℤ → ℤ → ℤ
+extreme least x y = if least then int_min x y else int_max x y
 
 -- the type of a call's result, and its value
 abbrev pub call_type : Call → Dtype
 call_type (One f from t) = result_type1 f t
 call_type (Two f t) = result_type2 f t
 call_type (Select t) = t
+call_type (Extreme least t) = t
 
 abbrev pub call_value : Call → ℤ → ℤ → ℤ → ℤ
 call_value (One f from t) x y z = op1 f t x
 call_value (Two f t) x y z = op2 f t x y
 call_value (Select t) x y z = selected x y z
+call_value (Extreme least t) x y z = extreme least x y
 
 -- a function of one argument has its type
 abbrev pub IsCall : Call → Type 0

@@ -156,7 +156,13 @@ pub(crate) fn found<'a>(
                 region_strip(earlier.kernel.inputs, j, kind, earlier.range)
             }
         }
-        _ => row_strip(earlier.bytes, row, kind, earlier.range.count),
+        _ => {
+            if row.kept {
+                row_strip(earlier.bytes, row, kind, earlier.range.count)
+            } else {
+                None
+            }
+        }
     }
 }
 

@@ -8,7 +8,7 @@ ghost use Rattle.cu_kern.specs.Rows.{step_rows, loads_along, RowsAt};
 
 use crate::lays::{Lay, pace_of};
 use crate::regions::{Inputs, left_in};
-use crate::row_steps::{leave_row, row_of_step};
+use crate::row_steps::{extreme_of, leave_row, row_of_step};
 use crate::rows::{Earlier, PlaceRange, Row, RowKernel, RowLoad, is_literal, kind_at, step_at};
 use cu_num::{Dtype, promote, result1, result2, size};
 use cu_op::Instr;
@@ -104,12 +104,13 @@ struct BankUse {
     bytes: usize,
 }
 
-/// The elements of a kernel's result, a row of places at a time; `false` where types differ. No row of places goes past the end of a
-/// long piece of a region, so that such a piece is read where it lies.
+/// The elements of a kernel's result at the places of `all`, a row of places at a time; `false` where types differ. No row of places
+/// goes past the end of a long piece of a region, so that such a piece is read where it lies.
 fn run_each(
     code: &[Instr],
     inputs: Inputs<'_>,
     t: Dtype,
+    all: PlaceRange,
     places: usize,
     rows: &mut [Row],
     bank: &mut [u8],
@@ -119,21 +120,20 @@ fn run_each(
     requires rows { length code.now ≤ length rows.old }
     requires places { 0 < places }
     requires lays { All (LayFits inputs.dims.now (length inputs.ins.now)) inputs.lays.now }
-    requires out { length out.old ≡ product inputs.dims.now * size_of t }
-    ensures { IsTrue result → (p : ℕ) → p < product inputs.entry.dims.now
-        → HasValue t out.new p (value_by_place code.now inputs.entry.lays.now inputs.entry.ins.now inputs.entry.dims.now p) }
+    requires small { product inputs.dims.now < 2 ^ 63 }
+    requires within { all.from + all.count ≤ product inputs.dims.now }
+    requires out { length out.old ≡ all.count * size_of t }
+    ensures { IsTrue result → (k : ℕ) → k < all.count
+        → HasValue t out.new k (value_by_place code.now inputs.entry.lays.now inputs.entry.ins.now inputs.entry.dims.now (all.from + k)) }
 {
     let size = size(t) as usize;
-    let all = out.len() / size;
     let piece = long_piece(rows);
     let mut done = 0;
-    while done < all {
-        let most = (all - done).min(places);
-        let count = most.min(left_in(piece, done as u64) as usize);
-        let range = PlaceRange {
-            from: done as u64,
-            count,
-        };
+    while done < all.count {
+        let from = all.from + done as u64;
+        let most = (all.count - done).min(places);
+        let count = most.min(left_in(piece, from) as usize);
+        let range = PlaceRange { from, count };
         keep_rows(range, rows);
         let kernel = RowKernel { code, rows, inputs };
         let part = &mut out[done * size..(done + count) * size];
@@ -169,22 +169,30 @@ fn keep_rows(range: PlaceRange, rows: &mut [Row]) {
     }
 }
 
-/// The elements of a kernel of at most 32 steps; `false` where the rows weren't guessed right.
+/// The elements of a kernel of at most 32 steps at some places; `false` where the rows weren't guessed right.
 #[inline(never)]
-pub(crate) fn run_by_rows(code: &[Instr], inputs: Inputs<'_>, t: Dtype, out: &mut [u8]) -> bool
+pub(crate) fn run_by_rows(
+    code: &[Instr],
+    inputs: Inputs<'_>,
+    t: Dtype,
+    range: PlaceRange,
+    out: &mut [u8],
+) -> bool
     requires lays { All (LayFits inputs.dims.now (length inputs.ins.now)) inputs.lays.now }
-    requires out { length out.old ≡ product inputs.dims.now * size_of t }
-    ensures { IsTrue result → (p : ℕ) → p < product inputs.entry.dims.now
-        → HasValue t out.new p (value_by_place code.now inputs.entry.lays.now inputs.entry.ins.now inputs.entry.dims.now p) }
+    requires small { product inputs.dims.now < 2 ^ 63 }
+    requires within { range.from + range.count ≤ product inputs.dims.now }
+    requires out { length out.old ≡ range.count * size_of t }
+    ensures { IsTrue result → (k : ℕ) → k < range.count
+        → HasValue t out.new k (value_by_place code.now inputs.entry.lays.now inputs.entry.ins.now inputs.entry.dims.now (range.from + k)) }
 {
-    if code.is_empty() || code.len() > STEPS || out.is_empty() {
+    if code.is_empty() || code.len() > STEPS || range.count == 0 {
         return false;
     }
     let mut rows = rows_of(code, inputs);
-    let places = places_of(code, &rows, out.len() / size(t) as usize);
+    let places = places_of(code, &rows, range.count);
     let bytes = lay_out(code, places, &mut rows);
     let used = BankUse { places, bytes };
-    run_in_bank(code, inputs, t, used, &mut rows[..code.len()], out)
+    run_in_bank(code, inputs, t, range, used, &mut rows[..code.len()], out)
 }
 
 /// `run_each` with a bank that has at least so many bytes, where that is possible: what a small task doesn't use isn't zeroed.
@@ -192,6 +200,7 @@ fn run_in_bank(
     code: &[Instr],
     inputs: Inputs<'_>,
     t: Dtype,
+    all: PlaceRange,
     used: BankUse,
     rows: &mut [Row],
     out: &mut [u8],
@@ -200,19 +209,21 @@ fn run_in_bank(
     requires rows { length code.now ≤ length rows.old }
     requires places { 0 < used.places }
     requires lays { All (LayFits inputs.dims.now (length inputs.ins.now)) inputs.lays.now }
-    requires out { length out.old ≡ product inputs.dims.now * size_of t }
-    ensures { IsTrue result → (p : ℕ) → p < product inputs.entry.dims.now
-        → HasValue t out.new p (value_by_place code.now inputs.entry.lays.now inputs.entry.ins.now inputs.entry.dims.now p) }
+    requires small { product inputs.dims.now < 2 ^ 63 }
+    requires within { all.from + all.count ≤ product inputs.dims.now }
+    requires out { length out.old ≡ all.count * size_of t }
+    ensures { IsTrue result → (k : ℕ) → k < all.count
+        → HasValue t out.new k (value_by_place code.now inputs.entry.lays.now inputs.entry.ins.now inputs.entry.dims.now (all.from + k)) }
 {
     if used.bytes <= 2048 {
         let mut bank = [0; 2048];
-        run_each(code, inputs, t, used.places, rows, &mut bank, out)
+        run_each(code, inputs, t, all, used.places, rows, &mut bank, out)
     } else if used.bytes <= 8192 {
         let mut bank = [0; 8192];
-        run_each(code, inputs, t, used.places, rows, &mut bank, out)
+        run_each(code, inputs, t, all, used.places, rows, &mut bank, out)
     } else {
         let mut bank = [0; BANK];
-        run_each(code, inputs, t, used.places, rows, &mut bank, out)
+        run_each(code, inputs, t, all, used.places, rows, &mut bank, out)
     }
 }
 
@@ -234,11 +245,45 @@ fn rows_of(code: &[Instr], inputs: Inputs<'_>) -> [Row; STEPS]
         rows[number] = Row {
             dtype: kind_of(code[number], code, inputs, &rows),
             at: 0,
-            kept: !matches!(load, RowLoad::OnePiece),
+            kept: matches!(load, RowLoad::Pieces(_)),
             load,
         };
+        keep_read(number, code, &mut rows);
     }
+    keep_computed(code.len().saturating_sub(1), &mut rows);
     rows
+}
+
+/// Has rows kept of the steps that a step reads. A choice that is an extreme doesn't read its condition.
+fn keep_read(number: usize, code: &[Instr], rows: &mut [Row; STEPS])
+    requires step { number < length code.now }
+    requires row { number < 32 }
+{
+    match code[number] {
+        Instr::Load(_) | Instr::Const(_) => (),
+        Instr::One(_, _, a) => keep_computed(a as usize, rows),
+        Instr::Two(_, _, a, b) => {
+            keep_computed(a as usize, rows);
+            keep_computed(b as usize, rows);
+        }
+        Instr::Select(c, a, b) => {
+            if extreme_of(code, number, (c, a, b), rows[number].dtype).is_none() {
+                keep_computed(c as usize, rows);
+            }
+            keep_computed(a as usize, rows);
+            keep_computed(b as usize, rows);
+        }
+    }
+}
+
+/// Has a row kept of a step, unless it loads: of these it is known before.
+#[inline(always)]
+fn keep_computed(number: usize, rows: &mut [Row; STEPS]) {
+    if number < STEPS {
+        if let RowLoad::Nothing = rows[number].load {
+            rows[number].kept = true;
+        }
+    }
 }
 
 /// What a step loads. A region that has as many elements as the result, or one, is in one piece.

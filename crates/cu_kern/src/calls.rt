@@ -3,7 +3,7 @@ ghost use Rattle.std.specs.Prelude.{◌≡◌};
 ghost use Rattle.cu_num.specs.Dtype.{InRange};
 ghost use Rattle.cu_num.specs.Scalar.{op2};
 ghost use Rattle.cu_op.specs.Kernel.{selected};
-ghost use Rattle.cu_kern.specs.Strips.{call_type};
+ghost use Rattle.cu_kern.specs.Strips.{call_type, extreme};
 
 use crate::division::floor_divide;
 use cu_num::{Dtype, Fn1, Fn2, result1, result2, scalar2, wrap};
@@ -17,6 +17,8 @@ pub(crate) enum Call {
     Two(Fn2, Dtype),
     /// Where the first argument is 1 the second, else the third, both of the type.
     Select(Dtype),
+    /// The least of two arguments of the type, or else the greatest.
+    Extreme(bool, Dtype),
 }
 
 /// The type of the result.
@@ -28,6 +30,7 @@ pub(crate) fn call_type(call: Call) -> Dtype
         Call::One(f, _, t) => result1(f, t),
         Call::Two(f, t) => result2(f, t),
         Call::Select(t) => t,
+        Call::Extreme(_, t) => t,
     }
 }
 
@@ -37,6 +40,14 @@ pub(crate) fn chosen(c: i128, x: i128, y: i128) -> i128
     ensures { result ≡ selected c x y }
 {
     if c == 1 { x } else { y }
+}
+
+/// The least, or else the greatest.
+#[inline(always)]
+pub(crate) fn extreme(least: bool, x: i128, y: i128) -> i128
+    ensures { result ≡ extreme least x y }
+{
+    if least { x.min(y) } else { x.max(y) }
 }
 
 /// `scalar2`, which divides by the machine's division of at most 64 bits.

@@ -20,4 +20,5 @@ mod strip_loops;
 mod strips;
 
 pub use lays::Lay;
-pub use run::run_kernel;
+pub use rows::PlaceRange;
+pub use run::{run_kernel, run_kernel_at};

@@ -1,12 +1,13 @@
 //! Steps of a kernel along a row of places: each leaves its results in a row of its own. The types of the rows are guessed beforehand
 //! and tested at each step.
-ghost use Rattle.std.specs.Prelude.{◌≡◌, ◌≢◌, ◌+◌, ◌*◌, ◌^◌, ◌≤◌, ◌<◌, ℤ, All, IsTrue, IfSome, length};
+ghost use Rattle.std.specs.Prelude.{◌≡◌, ◌≢◌, ◌+◌, ◌*◌, ◌^◌, ◌≤◌, ◌<◌, ℤ, All, IsTrue, IfSome, Some, length};
+ghost use Rattle.std.specs.List.{slice_get};
 ghost use Rattle.cu_num.specs.Dtype.{size_of};
 ghost use Rattle.cu_num.specs.Scalar.{result_type1, result_type2};
 ghost use Rattle.cu_shape.specs.Index.{product};
 ghost use Rattle.cu_op.specs.declared.kernel.Instr.TheVariants.{Load, Const, One, Two, Select};
 ghost use Rattle.cu_kern.specs.Lays.{LayFits};
-ghost use Rattle.cu_kern.specs.Rows.{Rows, rows_before, loads_along, Computes, left_row, Leaves};
+ghost use Rattle.cu_kern.specs.Rows.{Rows, rows_before, loads_along, Computes, left_row, Leaves, IsExtreme, ReadsEarlier};
 
 use crate::arguments::{found, found_in_type, kind_found, literal_at, takes};
 use crate::calls::Call;
@@ -88,21 +89,61 @@ fn row_of_select(
 {
     let (c, a, b) = steps;
     let code = earlier.kernel.code;
-    let choosing = literal_at(code, c, Dtype::Bool);
     let first = literal_at(code, a, t);
     let second = literal_at(code, b, t);
     let (near, far) = spare.split_at_mut(spare.len() / 2);
-    let Some(choice) = found(earlier, c, Dtype::Bool, &choosing) else {
-        return false;
-    };
     let Some(x) = found_in_type(earlier, a, t, &first, near) else {
         return false;
     };
     let Some(y) = found_in_type(earlier, b, t, &second, far) else {
         return false;
     };
+    if let Some(least) = extreme_of(code, earlier.number, steps, t) {
+        call_strips(Call::Extreme(least, t), x, y, y, out);
+        return true;
+    }
+    let choosing = literal_at(code, c, Dtype::Bool);
+    let Some(choice) = found(earlier, c, Dtype::Bool, &choosing) else {
+        return false;
+    };
     call_strips(Call::Select(t), choice, x, y, out);
     true
+}
+
+/// Whether a choice is the least of its arguments, or else the greatest, where its condition, one of the first `number` steps,
+/// compares them in this type; none where it doesn't.
+#[inline(always)]
+pub(crate) fn extreme_of(
+    code: &[Instr],
+    number: usize,
+    steps: (u32, u32, u32),
+    t: Dtype,
+) -> Option<bool>
+    ensures before { IfSome result (λ least. steps.0 < number) }
+    ensures compares { IfSome result (λ least. (f : Fn2) × (slice_get code.now steps.0 ≡ Some (Two f t steps.1 steps.2)) × IsExtreme least f) }
+{
+    let (c, a, b) = steps;
+    if c as usize >= number || c as usize >= code.len() {
+        return None;
+    }
+    let condition = code[c as usize];
+    match condition {
+        Instr::Two(f, s, x, y) if s == t && x == a && y == b => extreme_by(f),
+        _ => None,
+    }
+}
+
+/// Whether the first of two numbers of which a comparison holds, else the second, is the least of them, or else the greatest; none
+/// where it is neither.
+#[inline(always)]
+fn extreme_by(f: Fn2) -> Option<bool>
+    ensures { IfSome result (λ least. IsExtreme least f) }
+{
+    match f {
+        Fn2::Less | Fn2::LessEqual => Some(true),
+        Fn2::Greater | Fn2::GreaterEqual => Some(false),
+        _ => None,
+    }
 }
 
 /// A region along the places; `false` where its type is another.
@@ -170,26 +211,39 @@ pub(crate) fn leave_row(
 {
     match instr {
         Instr::Const(_) => Some(0),
-        Instr::Load(j) => {
+        _ => {
             if row.kept {
                 leave_computed(instr, row, earlier, rest)
             } else {
-                leave_in_place(j, earlier)
+                leave_nothing(instr, earlier)
             }
         }
-        _ => leave_computed(instr, row, earlier, rest),
     }
 }
 
-/// `leave_row` of a region that is read where it lies.
-fn leave_in_place(j: u32, earlier: Earlier<'_>) -> Option<usize>
-    ensures there { IfSome result (λ used. j < length earlier.entry.kernel.inputs.lays.now) }
+/// `leave_row` of a step that has no row: a region that is read where it lies, or what no step reads.
+fn leave_nothing(instr: Instr, earlier: Earlier<'_>) -> Option<usize>
+    ensures there { IfSome result (λ used. ReadsEarlier instr (length earlier.entry.kernel.inputs.lays.now) earlier.entry.number) }
     ensures none { IfSome result (λ used. used ≡ 0) }
 {
-    if j as usize >= earlier.kernel.inputs.lays.len() {
-        return None;
-    }
-    Some(0)
+    let lays = earlier.kernel.inputs.lays.len();
+    let there = match instr {
+        Instr::Load(j) => (j as usize) < lays,
+        Instr::Const(_) => true,
+        Instr::One(_, _, a) => is_earlier(a, earlier),
+        Instr::Two(_, _, a, b) => is_earlier(a, earlier) && is_earlier(b, earlier),
+        Instr::Select(c, a, b) => {
+            is_earlier(c, earlier) && is_earlier(a, earlier) && is_earlier(b, earlier)
+        }
+    };
+    if there { Some(0) } else { None }
+}
+
+/// Whether a step is among those before.
+fn is_earlier(a: u32, earlier: Earlier<'_>) -> bool
+    ensures { IsTrue result → a < earlier.entry.number }
+{
+    (a as usize) < earlier.number
 }
 
 /// `leave_row` of a step that is no literal.

@@ -18,8 +18,8 @@ pub(crate) enum RowLoad {
     Pieces(u64),
 }
 
-/// Where a step's results stand: elements of a type from a byte of the bank on. What is loaded has a row only where one is kept:
-/// along places of one piece of a region it is read where it lies.
+/// Where a step's results stand: elements of a type from a byte of the bank on. A step has a row only where one is kept: along places
+/// of one piece of a region it is read where it lies, and what no step reads isn't computed.
 #[derive(Clone, Copy)]
 pub(crate) struct Row {
     pub(crate) dtype: Dtype,
@@ -36,11 +36,13 @@ pub(crate) struct RowKernel<'a> {
     pub(crate) inputs: Inputs<'a>,
 }
 
-/// Places of the result: `count` from `from` on.
+/// Places of a result, in row-major order: `count` from `from` on.
 #[derive(Clone, Copy)]
-pub(crate) struct PlaceRange {
-    pub(crate) from: u64,
-    pub(crate) count: usize,
+pub struct PlaceRange {
+    /// The first of them.
+    pub from: u64,
+    /// How many they are.
+    pub count: usize,
 }
 
 /// The bytes of the rows of the first `number` steps, along some places.

@@ -1,5 +1,5 @@
 //! One call a function from bytes to bytes, so that the loops of each are built apart.
-ghost use Rattle.std.specs.Prelude.{length};
+ghost use Rattle.std.specs.Prelude.{length, true, false};
 ghost use Rattle.cu_kern.specs.Strips.{strip, IsCall, HasArguments, HasResults};
 
 use crate::calls::Call;
@@ -7,7 +7,9 @@ use crate::comparisons::{
     pair_equal, pair_greater, pair_greater_equal, pair_less, pair_less_equal, pair_not_equal,
 };
 use crate::reciprocals::divide_by_type;
-use crate::strip_loops::{astype_by_types, one_by_type, pair_by_type, select_by_type};
+use crate::strip_loops::{
+    astype_by_types, extreme_by_type, one_by_type, pair_by_type, select_by_type,
+};
 use crate::strips::Strip;
 use cu_num::{Dtype, Fn1, Fn2};
 
@@ -21,6 +23,8 @@ pub(crate) fn call_strips(call: Call, x: Strip<'_>, y: Strip<'_>, z: Strip<'_>, 
         Call::One(f, from, t) => one(f, from, t, x, out),
         Call::Two(f, t) => pair(f, t, x, y, out),
         Call::Select(t) => select(t, x, y, z, out),
+        Call::Extreme(true, t) => minimum(t, x, y, out),
+        Call::Extreme(false, t) => maximum(t, x, y, out),
     }
 }
 
@@ -254,4 +258,20 @@ fn select(t: Dtype, x: Strip<'_>, y: Strip<'_>, z: Strip<'_>, out: &mut [u8])
     ensures { HasResults (Call.Select t) (strip x.entry.bytes.now x.entry.step) (strip y.entry.bytes.now y.entry.step) (strip z.entry.bytes.now z.entry.step) out.new }
 {
     select_by_type(t, x, y, z, out);
+}
+
+#[inline(never)]
+fn minimum(t: Dtype, x: Strip<'_>, y: Strip<'_>, out: &mut [u8])
+    requires arguments { HasArguments (Call.Extreme true t) (strip x.bytes.now x.step) (strip y.bytes.now y.step) (strip y.bytes.now y.step) (length out.old) }
+    ensures { HasResults (Call.Extreme true t) (strip x.entry.bytes.now x.entry.step) (strip y.entry.bytes.now y.entry.step) (strip y.entry.bytes.now y.entry.step) out.new }
+{
+    extreme_by_type(true, t, x, y, out);
+}
+
+#[inline(never)]
+fn maximum(t: Dtype, x: Strip<'_>, y: Strip<'_>, out: &mut [u8])
+    requires arguments { HasArguments (Call.Extreme false t) (strip x.bytes.now x.step) (strip y.bytes.now y.step) (strip y.bytes.now y.step) (length out.old) }
+    ensures { HasResults (Call.Extreme false t) (strip x.entry.bytes.now x.entry.step) (strip y.entry.bytes.now y.entry.step) (strip y.entry.bytes.now y.entry.step) out.new }
+{
+    extreme_by_type(false, t, x, y, out);
 }

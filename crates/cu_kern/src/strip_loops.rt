@@ -8,7 +8,8 @@ ghost use Rattle.cu_kern.specs.Strips.{strip, IsCall, HasArguments, HasResults};
 use crate::by_type::call_by_type;
 use crate::calls::Call;
 use crate::strips::{
-    Strip, compare_long, compare_short, compare_wide, one_each, pair_each, select_each,
+    Strip, compare_long, compare_short, compare_wide, extreme_each, one_each, pair_each,
+    select_each,
 };
 use cu_num::{Dtype, Fn1, Fn2};
 
@@ -199,5 +200,38 @@ fn by_last_step(t: Dtype, x: Strip<'_>, y: Strip<'_>, z: Strip<'_>, out: &mut [u
         select_each(t, x, y, z.resting(), out);
     } else {
         select_each(t, x, y, z.moving(), out);
+    }
+}
+
+/// The least or the greatest of two arguments, with loops for each type.
+#[inline(always)]
+pub(crate) fn extreme_by_type(least: bool, t: Dtype, x: Strip<'_>, y: Strip<'_>, out: &mut [u8])
+    requires arguments { HasArguments (Call.Extreme least t) (strip x.bytes.now x.step) (strip y.bytes.now y.step) (strip y.bytes.now y.step) (length out.old) }
+    ensures { HasResults (Call.Extreme least t) (strip x.entry.bytes.now x.entry.step) (strip y.entry.bytes.now y.entry.step) (strip y.entry.bytes.now y.entry.step) out.new }
+{
+    call_by_type!(extreme_by_steps, [least], t, [x, y, out])
+}
+
+#[inline(always)]
+fn extreme_by_steps(least: bool, t: Dtype, x: Strip<'_>, y: Strip<'_>, out: &mut [u8])
+    requires arguments { HasArguments (Call.Extreme least t) (strip x.bytes.now x.step) (strip y.bytes.now y.step) (strip y.bytes.now y.step) (length out.old) }
+    ensures { HasResults (Call.Extreme least t) (strip x.entry.bytes.now x.entry.step) (strip y.entry.bytes.now y.entry.step) (strip y.entry.bytes.now y.entry.step) out.new }
+{
+    if x.step == 0 {
+        extreme_by_last_step(least, t, x.resting(), y, out);
+    } else {
+        extreme_by_last_step(least, t, x.moving(), y, out);
+    }
+}
+
+#[inline(always)]
+fn extreme_by_last_step(least: bool, t: Dtype, x: Strip<'_>, y: Strip<'_>, out: &mut [u8])
+    requires arguments { HasArguments (Call.Extreme least t) (strip x.bytes.now x.step) (strip y.bytes.now y.step) (strip y.bytes.now y.step) (length out.old) }
+    ensures { HasResults (Call.Extreme least t) (strip x.entry.bytes.now x.entry.step) (strip y.entry.bytes.now y.entry.step) (strip y.entry.bytes.now y.entry.step) out.new }
+{
+    if y.step == 0 {
+        extreme_each(least, t, x, y.resting(), out);
+    } else {
+        extreme_each(least, t, x, y.moving(), out);
     }
 }

@@ -4,7 +4,7 @@ ghost use Rattle.cu_num.specs.Scalar.{result_type2};
 ghost use Rattle.cu_num.specs.declared.types.Dtype.TheVariants.{Bool};
 ghost use Rattle.cu_kern.specs.Strips.{strip, value_along, IsCall, HasPlace, HasArguments, HasResults, HasPart, ResultsBelow};
 
-use crate::calls::{Call, chosen, value2};
+use crate::calls::{Call, chosen, extreme, value2};
 use cu_num::{Dtype, Fn1, Fn2, load, result1, result2, save, scalar1, size};
 
 /// Elements of which the next place reads the next, or where the step is 0 the same.
@@ -220,5 +220,30 @@ pub(crate) fn select_each(t: Dtype, x: Strip<'_>, y: Strip<'_>, z: Strip<'_>, ou
     let count = out.len() / size(t) as usize;
     for at in 0..count {
         save(t, select_at(t, x, y, z, at), out, at);
+    }
+}
+
+/// The least or the greatest, at one place.
+#[inline(always)]
+fn extreme_at(least: bool, t: Dtype, x: Strip<'_>, y: Strip<'_>, at: usize) -> i128
+    requires place { HasPlace (Call.Extreme least t) (strip x.bytes.now x.step) (strip y.bytes.now y.step) (strip y.bytes.now y.step) at }
+    ensures { result ≡ value_along (Call.Extreme least t) (strip x.entry.bytes.now x.entry.step) (strip y.entry.bytes.now y.entry.step) (strip y.entry.bytes.now y.entry.step) at }
+{
+    extreme(
+        least,
+        load(t, x.bytes, x.step * at),
+        load(t, y.bytes, y.step * at),
+    )
+}
+
+/// The least of two arguments, or else the greatest.
+#[inline(always)]
+pub(crate) fn extreme_each(least: bool, t: Dtype, x: Strip<'_>, y: Strip<'_>, out: &mut [u8])
+    requires arguments { HasArguments (Call.Extreme least t) (strip x.bytes.now x.step) (strip y.bytes.now y.step) (strip y.bytes.now y.step) (length out.old) }
+    ensures { HasResults (Call.Extreme least t) (strip x.entry.bytes.now x.entry.step) (strip y.entry.bytes.now y.entry.step) (strip y.entry.bytes.now y.entry.step) out.new }
+{
+    let count = out.len() / size(t) as usize;
+    for at in 0..count {
+        save(t, extreme_at(least, t, x, y, at), out, at);
     }
 }

@@ -49,9 +49,10 @@ pub record IsInnerRegion (p : PlanView) (w : Walk) (k region : ℕ) : Type 0 whe
   -- its only chunk
   pub cells : walk_cells p.arrays w ≡ cell w.array (task_coord p.arrays (op_of p k) region) ∷ []
 
--- what computes the region of a walk of an outer task
+-- what computes the region of a walk of an outer task, whose array is made where it is read
 pub record StandsFor (outer : TaskView) (w : Walk) (inner : TaskView) : Type 0 where
   pub plan : inner.plan ≡ outer.plan
+  pub inlined : is_inlined outer.plan.arrays w.array ≡ true
   pub before : inner.op < outer.op
   pub region : IsInnerRegion outer.plan w inner.op inner.number
 

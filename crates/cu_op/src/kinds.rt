@@ -26,7 +26,7 @@ use crate::copies::same_list;
 use crate::groups::{GroupedAxes, chunk_walk, merge_walk};
 use crate::kernel::Kernel;
 use crate::layout::ArrayInfo;
-use crate::memory::{bytes_of, room_of, rooms, value_room};
+use crate::memory::{bytes_of, chunk_room, rooms, value_room};
 use crate::numbers::{new_number, new_option, renumber_both, renumber_inputs};
 use crate::operation::Op;
 use crate::walks::Walk;
@@ -349,7 +349,7 @@ pub(crate) fn two_walks(first: Walk, second: Walk) -> ArrayVec<Walk, 8>
 }
 
 /// The bytes of the regions that a task of the operation reads before it computes.
-pub(crate) fn input_room(arrays: &[ArrayInfo], op: &Op) -> u64
+pub fn input_room(arrays: &[ArrayInfo], op: &Op) -> u64
     requires within { All (λ a. a < length arrays.now) (reads_of op.now) }
     requires small { input_room arrays.now op.now < 2 ^ 64 }
     ensures { result ≡ input_room arrays.now op.now }
@@ -358,23 +358,26 @@ pub(crate) fn input_room(arrays: &[ArrayInfo], op: &Op) -> u64
         Op::Map { ins, .. } => rooms(arrays, ins.as_slice()),
         Op::Pull { .. } => 0,
         Op::Copy { region, source, .. } => bytes_of(arrays, *source, region),
-        Op::Fold { source, .. } | Op::PairFold { source, .. } => room_of(arrays, *source),
-        Op::Merge { group, source, .. } => u64::from(*group) * room_of(arrays, *source),
+        Op::Fold { source, .. } | Op::PairFold { source, .. } => chunk_room(arrays, *source),
+        Op::Merge { group, source, .. } => u64::from(*group) * chunk_room(arrays, *source),
         Op::PairMerge {
             group,
             value_source,
             place_source,
             ..
-        } => u64::from(*group) * (room_of(arrays, *value_source) + room_of(arrays, *place_source)),
-        Op::Mul { left, right, .. } => room_of(arrays, *left) + room_of(arrays, *right),
-        Op::Carry { group, sums, .. } => (u64::from(*group) + 1) * room_of(arrays, *sums),
-        Op::Scan { source, carry, .. } => room_of(arrays, *source) + carried_room(arrays, *carry),
-        Op::GroupFold { source, labels, .. } => room_of(arrays, *source) + room_of(arrays, *labels),
+        } => u64::from(*group)
+            * (chunk_room(arrays, *value_source) + chunk_room(arrays, *place_source)),
+        Op::Mul { left, right, .. } => chunk_room(arrays, *left) + chunk_room(arrays, *right),
+        Op::Carry { group, sums, .. } => (u64::from(*group) + 1) * chunk_room(arrays, *sums),
+        Op::Scan { source, carry, .. } => chunk_room(arrays, *source)
+            + carried_room(arrays, *carry),
+        Op::GroupFold { source, labels, .. } => chunk_room(arrays, *source)
+            + chunk_room(arrays, *labels),
     }
 }
 
 /// The bytes of the regions that a task of the operation computes.
-pub(crate) fn output_room(arrays: &[ArrayInfo], op: &Op) -> u64
+pub fn output_room(arrays: &[ArrayInfo], op: &Op) -> u64
     requires reads { All (λ a. a < length arrays.now) (reads_of op.now) }
     requires target { target_of op.now < length arrays.now }
     ensures { result ≡ output_room arrays.now op.now }
@@ -382,13 +385,13 @@ pub(crate) fn output_room(arrays: &[ArrayInfo], op: &Op) -> u64
     match op {
         Op::Copy { .. } => 0,
         Op::PairFold { source, out, .. } => value_room(arrays, *source, *out)
-            + room_of(arrays, *out),
+            + chunk_room(arrays, *out),
         Op::PairMerge {
             value_source,
             out,
             ..
-        } => value_room(arrays, *value_source, *out) + room_of(arrays, *out),
-        other => room_of(arrays, other.target()),
+        } => value_room(arrays, *value_source, *out) + chunk_room(arrays, *out),
+        other => chunk_room(arrays, other.target()),
     }
 }
 

@@ -188,8 +188,8 @@ pub fn all_stored_law()
 {}
 
 /// A projection depends on the arrays, the operations and what is reserved alone. What stands inside
-/// an operation needs no more than that operation, and a sound plan is in order, as `projection_of`
-/// wants it.
+/// an operation needs no more than that operation, and in a sound plan each operation stands behind
+/// those that make what it reads.
 pub fn projection_law()
     ensures alike { (p q : PlanView) (k : ℕ) → p.arrays ≡ q.arrays
         → ((j : ℕ) → op_of p j ≡ op_of q j) → p.reserved ≡ q.reserved

@@ -23,14 +23,14 @@ pub use cells::Cell;
 pub use cu_origin::{Axes, Pull};
 pub use inlining::{is_listed, listed_number};
 pub use kernel::{Instr, Kernel};
-pub use kinds::{KindText, kind_name};
+pub use kinds::{KindText, input_room, kind_name, output_room};
 pub use laws::{
     all_stored_law, chunk_law, inlined_law, inner_law, input_cells_law, input_law, key_law,
     one_map_law, projection_law, range_law, ready_law, region_law, task_law, value_law,
 };
 pub use layout::{ArrayInfo, Layout};
-pub use memory::own_projection;
-pub use needs::{projection_of, steps_within};
+pub use memory::{chunk_room, own_projection, scratch_room};
+pub use needs::steps_within;
 pub use numbers::{new_number, number_in};
 pub use operation::{Op, Planned};
 pub use plan::Plan;

@@ -30,7 +30,7 @@ pub fn own_projection(arrays: &[ArrayInfo], reserved: u64, op: &Op) -> u64
 }
 
 /// The bytes of the greatest chunk that the operation reads or writes.
-pub(crate) fn scratch_room(arrays: &[ArrayInfo], op: &Op) -> u64
+pub fn scratch_room(arrays: &[ArrayInfo], op: &Op) -> u64
     requires reads { All (λ a. a < length arrays.now) (reads_of op.now) }
     requires writes { All (λ a. a < length arrays.now) (writes_of op.now) }
     ensures { result ≡ scratch_room arrays.now op.now }
@@ -41,7 +41,7 @@ pub(crate) fn scratch_room(arrays: &[ArrayInfo], op: &Op) -> u64
 }
 
 /// The bytes of a chunk of an array.
-pub(crate) fn room_of(arrays: &[ArrayInfo], array: u32) -> u64
+pub fn chunk_room(arrays: &[ArrayInfo], array: u32) -> u64
     requires { array < length arrays.now }
     ensures room { result ≡ chunk_room arrays.now array }
     ensures small { result ≤ 2 ^ 43 }
@@ -57,7 +57,7 @@ fn greatest_room(arrays: &[ArrayInfo], numbers: &[u32]) -> u64
 {
     let mut room = 0;
     for number in numbers {
-        room = room_of(arrays, *number).max(room);
+        room = chunk_room(arrays, *number).max(room);
     }
     room
 }
@@ -89,7 +89,7 @@ pub(crate) fn rooms(arrays: &[ArrayInfo], numbers: &[u32]) -> u64
 {
     let mut room = 0;
     for number in numbers {
-        room += room_of(arrays, *number);
+        room += chunk_room(arrays, *number);
     }
     room
 }

@@ -5,7 +5,7 @@ ghost use Rattle.cu_op.specs.Operation.{reads_of, writes_of, IsReadable};
 ghost use Rattle.cu_op.specs.Projection.{input_room, instruction_count, projection};
 ghost use Rattle.cu_op.specs.Within.{ops_within};
 
-use crate::kinds::{input_room, output_room};
+use crate::kinds::input_room;
 use crate::layout::ArrayInfo;
 use crate::memory::scratch_room;
 use crate::operation::{Op, Planned};
@@ -20,21 +20,6 @@ struct Needs {
     inputs: u64,
     /// The steps of their kernels.
     steps: u64,
-}
-
-/// The bytes of memory that a worker needs for a task of an operation over these arrays, with the
-/// operations that stand inside its tasks, the `reserved` ones counted: what `Planned::projected`
-/// has to be.
-pub fn projection_of(arrays: &[ArrayInfo], ops: &[Planned], reserved: u64, op: u32) -> u64
-    requires operation { op < length ops.now }
-    requires ordered { IsOrdered arrays.now ops.now }
-    requires small { projection (plan_over arrays.now ops.now reserved) op < 2 ^ 64 }
-    ensures { result ≡ projection (plan_over arrays.now ops.now reserved) op }
-{
-    let needs = needs_within(arrays, ops, op);
-    let outputs = output_room(arrays, &ops[op as usize].op);
-    let code = 512 * needs.steps;
-    reserved + needs.scratch + needs.inputs + outputs + code
 }
 
 /// The steps of the kernels of an operation and of those inside its tasks.

@@ -15,10 +15,12 @@ use Rattle.cu_op.specs.PlanView.{PlanView, op_of, operation_at}
 use Rattle.cu_op.specs.declared.layout.ArrayInfo.{ArrayInfo}
 use Rattle.cu_op.specs.declared.operation.Planned.{Planned}
 use Rattle.cu_fuse.specs.Fused.{stands_in}
-use Rattle.cu_fuse.specs.Inlining.{inlined_by, inlining, prefix_where, read_count, trial, HasRoom, IsChoice, IsInlinedOf, MayBeInlined}
-use Rattle.cu_plan.specs.Inlined.{has_room, inlined_arrays, inlined_of, is_taken, may_be_inlined, reading, readings, taken, Reading}
+use Rattle.cu_fuse.proofs.ChosenRooms.{fits_told, told_fits}
+use Rattle.cu_fuse.specs.Inlining.{inlined_by, inlining, prefix_where, read_count, trial, FitsOneTask, IsInlinedOf, IsInliningChoice, MayBeInlined}
+use Rattle.cu_fuse.specs.Rooms.{fits_one_task}
+use Rattle.cu_plan.specs.Inlined.{inlined_arrays, inlined_of, is_taken, may_be_inlined, reading, readings, taken, Reading}
 use Rattle.cu_plan.proofs.Takings.{arrays_in, here_taken, so_far, taken_here, taking, times, times-append, Taking}
-use Rattle.cu_plan.proofs.Tests.{may_told, room_told, told_may, told_room}
+use Rattle.cu_plan.proofs.Tests.{may_told, told_may}
 
 -- ---- what is read, in order
 
@@ -105,7 +107,7 @@ module _ (p : PlanView) where
   -- what is taken may be inlined
   may : (b : ℕ) (t : Taking (is_taken p) [] all b) → MayBeInlined p t.one.reader b
   may b t =
-      let both = and_parts (may_be_inlined p t.one.reader t.one.array) (has_room (inlining p (stands_in (t.one.array ∷ taken (is_taken p) [] t.front))) t.one.reader) t.passes in
+      let both = and_parts (may_be_inlined p t.one.reader t.one.array) (fits_one_task (inlining p (stands_in (t.one.array ∷ taken (is_taken p) [] t.front))) t.one.reader) t.passes in
       subst (MayBeInlined p t.one.reader) t.array (may_told p t.one.reader t.one.array both.0)
 
   once : (b : ℕ) → Taking (is_taken p) [] all b → times b all ≤ 1
@@ -117,22 +119,22 @@ module _ (p : PlanView) where
       ap (inlining p)
       (λ j b. (same_test a b j) || ((so_far (is_taken p) all once h.front (reading (0 + k) a) h.back h.is b ∙ ap (λ l. chosen b && stands_in l b) h.before) j))
 
-  chosen_told : (k i a : ℕ) → slice_get (reads_of (op_of p k)) i ≡ Some a → chosen a ≡ true → MayBeInlined p k a × HasRoom (trial p chosen k i a) k
+  chosen_told : (k i a : ℕ) → slice_get (reads_of (op_of p k)) i ≡ Some a → chosen a ≡ true → MayBeInlined p k a × FitsOneTask (trial p chosen k i a) k
   chosen_told k i a e t =
       let h = place p.ops 0 k i a e in
       let z : 0 + k ≡ k = omega arith in
       let passes = taken_here (is_taken p) all once h.front (reading (0 + k) a) h.back h.is t in
-      let both = and_parts (may_be_inlined p (0 + k) a) (has_room (inlining p (stands_in (a ∷ taken (is_taken p) [] h.front))) (0 + k)) passes in
-      let room : has_room (trial p chosen k i a) (0 + k) ≡ true = ap (λ q. has_room q (0 + k)) (sym (tried k i a h)) ∙ both.1 in
-      (subst (λ n. MayBeInlined p n a) z (may_told p (0 + k) a both.0), subst (HasRoom (trial p chosen k i a)) z (room_told (trial p chosen k i a) (0 + k) room))
+      let both = and_parts (may_be_inlined p (0 + k) a) (fits_one_task (inlining p (stands_in (a ∷ taken (is_taken p) [] h.front))) (0 + k)) passes in
+      let room : fits_one_task (trial p chosen k i a) (0 + k) ≡ true = ap (λ q. fits_one_task q (0 + k)) (sym (tried k i a h)) ∙ both.1 in
+      (subst (λ n. MayBeInlined p n a) z (may_told p (0 + k) a both.0), subst (FitsOneTask (trial p chosen k i a)) z (fits_told (trial p chosen k i a) (0 + k) room))
 
-  told_chosen : (k i a : ℕ) → slice_get (reads_of (op_of p k)) i ≡ Some a → MayBeInlined p k a → HasRoom (trial p chosen k i a) k → chosen a ≡ true
+  told_chosen : (k i a : ℕ) → slice_get (reads_of (op_of p k)) i ≡ Some a → MayBeInlined p k a → FitsOneTask (trial p chosen k i a) k → chosen a ≡ true
   told_chosen k i a e may room =
       let h = place p.ops 0 k i a e in
       let z : k ≡ 0 + k = omega arith in
       let first : may_be_inlined p (0 + k) a ≡ true = subst (λ n. may_be_inlined p n a ≡ true) z (told_may p k a may) in
-      let second : has_room (inlining p (stands_in (a ∷ taken (is_taken p) [] h.front))) (0 + k) ≡ true =
-      ap (λ q. has_room q (0 + k)) (tried k i a h) ∙ subst (λ n. has_room (trial p chosen k i a) n ≡ true) z (told_room (trial p chosen k i a) k room) in
+      let second : fits_one_task (inlining p (stands_in (a ∷ taken (is_taken p) [] h.front))) (0 + k) ≡ true =
+      ap (λ q. fits_one_task q (0 + k)) (tried k i a h) ∙ subst (λ n. fits_one_task (trial p chosen k i a) n ≡ true) z (told_fits (trial p chosen k i a) k room) in
       here_taken (is_taken p) all once h.front (reading (0 + k) a) h.back h.is (rw (first, second) refl)
 
   unread : (a : ℕ) → read_count p.ops a ≡ 0 → chosen a ≡ false
@@ -141,7 +143,7 @@ module _ (p : PlanView) where
     | inl t ↦ let c = (may a (taking (is_taken p) all a t)).once in absurd (omega (arith, none, c))
   ]
 
-  is_choice : IsChoice p chosen
+  is_choice : IsInliningChoice p chosen
   is_choice = record {
     read = λ k i a e. (chosen_told k i a e, λ both. told_chosen k i a e both.0 both.1);
     unread = unread;
@@ -186,6 +188,6 @@ module _ (p : PlanView) where
 
   pub is_inlined_of : IsInlinedOf p (inlined_of p)
   is_inlined_of = record {
-    choice = subst (IsChoice p) (λ j a. sym (flags a) j) is_choice;
+    choice = subst (IsInliningChoice p) (λ j a. sym (flags a) j) is_choice;
     plan = ap (inlined_by p) (λ j a. sym (flags a) j);
   }

@@ -1,7 +1,6 @@
 -- The tests of the rule of inlining say what it says.
-use Rattle.std.proofs.Common.{◌≡◌, ◌≢◌, inl, inr, ℕ, ◌==◌, ◌&&◌, not, nat_le, bytes_eq, Bool, true, List, Option, Some, None, refl, ap}
-use Rattle.std.specs.Prelude.{sum_by}
-use Rattle.std.proofs.lemmas.Bool.{and_parts, leb-true, le-leb}
+use Rattle.std.proofs.Common.{◌≡◌, ◌≢◌, inl, inr, ℕ, ◌==◌, ◌&&◌, not, bytes_eq, Bool, true, List, Option, Some, None, refl, ap}
+use Rattle.std.proofs.lemmas.Bool.{and_parts}
 use Rattle.std.proofs.lemmas.Bool.Decides.{eqb_tells}
 use Rattle.std.proofs.lemmas.Slice.Eq.{bytes_eq-Decides}
 use Rattle.cu_grid.specs.Grid.{RegularGrid}
@@ -9,14 +8,12 @@ use Rattle.cu_op.proofs.Members.{any_contains, contains_any}
 use Rattle.cu_op.specs.Arrays.{grid_at, maker_at}
 use Rattle.cu_op.specs.Operation.{writes_one_chunk, ReadsByChunk}
 use Rattle.cu_op.specs.PlanView.{PlanView, op_of}
-use Rattle.cu_op.specs.Projection.{instruction_count, projection}
-use Rattle.cu_op.specs.Within.{ops_within, stored_reads}
 use Rattle.cu_op.specs.declared.layout.ArrayInfo.{ArrayInfo}
 use Rattle.cu_op.specs.declared.operation.Op.{Op}
 use Rattle.cu_op.specs.declared.operation.Op.TheVariants.{Map, Pull, Copy, Fold, Merge, PairFold, PairMerge, Mul, Carry, Scan, GroupFold}
 use Rattle.cu_fuse.specs.Fused.{same_grid, stands_in}
-use Rattle.cu_fuse.specs.Inlining.{read_count, HasRoom, MayBeInlined}
-use Rattle.cu_plan.specs.Inlined.{has_room, is_made_by_chunk, may_be_inlined, reads_by_chunk}
+use Rattle.cu_fuse.specs.Inlining.{read_count, MayBeInlined}
+use Rattle.cu_plan.specs.Inlined.{is_made_by_chunk, may_be_inlined, reads_by_chunk}
 
 and_both : (a b : Bool) → a ≡ true → b ≡ true → (a && b) ≡ true
 and_both a b x y = rw (x, y) refl
@@ -115,21 +112,3 @@ module _ (p : PlanView) (k a : ℕ) where
       and_both made (inner && (once && chunk)) (told_maker p (maker_at p.arrays a) m.maker.0 m.maker.1 m.maker.2)
       (and_both inner (once && chunk) (true_not a p.out m.inner)
       (and_both once chunk (true_equal (read_count p.ops a) 1 m.once) (told_chunk p.arrays (op_of p k) a m.chunk)))
-
-module _ (p : PlanView) (k : ℕ) where
-  abbrev steps : ℕ
-  steps = sum_by instruction_count (ops_within p k)
-
-  abbrev reads : ℕ
-  reads = sum_by (stored_reads p.arrays) (ops_within p k)
-
-  pub room_told : has_room p k ≡ true → HasRoom p k
-  room_told h =
-      let x = and_parts (nat_le steps 32) (nat_le reads 8 && nat_le (projection p k) p.allowed) h in
-      let y = and_parts (nat_le reads 8) (nat_le (projection p k) p.allowed) x.1 in
-      record { instructions = leb-true steps 32 x.0; reads = leb-true reads 8 y.0; memory = leb-true (projection p k) p.allowed y.1 }
-
-  pub told_room : HasRoom p k → has_room p k ≡ true
-  told_room r =
-      and_both (nat_le steps 32) (nat_le reads 8 && nat_le (projection p k) p.allowed) (le-leb steps 32 r.instructions)
-      (and_both (nat_le reads 8) (nat_le (projection p k) p.allowed) (le-leb reads 8 r.reads) (le-leb (projection p k) p.allowed r.memory))

@@ -1,24 +1,25 @@
--- The plan in which arrays are made where they are read, array by array (this project's own rule):
--- what operations read is gone over in order.
-use Rattle.std.specs.Prelude.{ℕ, ◌+◌, ◌==◌, ◌&&◌, nat_le, not, Bool, false, List, [], ◌∷◌, ◌++◌, map, sum_by, Option, Some, None, if◌then◌else◌}
+-- The plan in which arrays are made where they are read, found array by array (this project's own
+-- rule): what operations read is gone over in order. That these arrays are those which the rule
+-- chooses, `merged_arrays_law` says.
+use Rattle.std.specs.Prelude.{ℕ, ◌+◌, ◌==◌, ◌&&◌, not, Bool, false, List, [], ◌∷◌, ◌++◌, map, Option, Some, None, if◌then◌else◌}
 use Rattle.cu_op.specs.Arrays.{grid_at, maker_at}
 use Rattle.cu_op.specs.Operation.{reads_of, writes_one_chunk}
 use Rattle.cu_op.specs.PlanView.{PlanView, op_of}
-use Rattle.cu_op.specs.Projection.{instruction_count, projection}
-use Rattle.cu_op.specs.Within.{ops_within, stored_reads}
 use Rattle.cu_op.specs.declared.layout.ArrayInfo.{ArrayInfo}
 use Rattle.cu_op.specs.declared.operation.Op.{Op}
 use Rattle.cu_op.specs.declared.operation.Op.TheVariants.{Map, Fold, PairFold, Scan, GroupFold}
 use Rattle.cu_op.specs.declared.operation.Planned.{Planned}
 use Rattle.cu_fuse.specs.Fused.{same_grid, stands_in}
 use Rattle.cu_fuse.specs.Inlining.{inlined_by, inlining, read_count}
+use Rattle.cu_fuse.specs.Rooms.{fits_one_task}
 
 -- ---- the tests of the rule
 
 -- each task of an operation reads one chunk of the array: an input of a map with the grid of its
 -- result, or what is reduced, searched or summed a chunk at a time
 abbrev pub reads_by_chunk : List ArrayInfo → Op → ℕ → Bool
-reads_by_chunk arrays (Map kernel ins out) a = stands_in ins.items a && same_grid (grid_at arrays a) (grid_at arrays out)
+reads_by_chunk arrays (Map kernel ins out) a =
+    stands_in ins.items a && same_grid (grid_at arrays a) (grid_at arrays out)
 reads_by_chunk arrays (Fold kind axes source out) a = a == source
 reads_by_chunk arrays (PairFold least axis source values out) a = a == source
 reads_by_chunk arrays (Scan axis source carry out) a = a == source
@@ -35,11 +36,6 @@ may_be_inlined p k a =
     is_made_by_chunk p (maker_at p.arrays a)
     && (not (a == p.out) && ((read_count p.ops a == 1) && reads_by_chunk p.arrays (op_of p k) a))
 
-abbrev pub has_room : PlanView → ℕ → Bool
-has_room p k =
-    nat_le (sum_by instruction_count (ops_within p k)) 32
-    && (nat_le (sum_by (stored_reads p.arrays) (ops_within p k)) 8 && nat_le (projection p k) p.allowed)
-
 -- ---- array by array
 
 -- operation k reads array a
@@ -55,9 +51,12 @@ abbrev pub readings : ℕ → List Planned → List Reading
 readings k [] = []
 readings k (o ∷ os) = map (reading k) (reads_of o.op) ++ readings (k + 1) os
 
--- an array is inlined that may be, and with which its reader has room, where these are inlined so far
+-- an array is inlined that may be, and with which its reader fits one task, where these are inlined
+-- so far
 abbrev pub is_taken : PlanView → List ℕ → Reading → Bool
-is_taken p so_far r = may_be_inlined p r.reader r.array && has_room (inlining p (stands_in (r.array ∷ so_far))) r.reader
+is_taken p so_far r =
+    may_be_inlined p r.reader r.array
+    && fits_one_task (inlining p (stands_in (r.array ∷ so_far))) r.reader
 
 abbrev pub with_next : (List ℕ → Reading → Bool) → List ℕ → Reading → List ℕ
 with_next test so_far r = if test so_far r then r.array ∷ so_far else so_far

@@ -1,5 +1,5 @@
--- The plan of an expression, in which maps are merged and arrays may be made where they are read (this
--- project's own rule).
+-- The plan of an expression, in which maps are merged and arrays may be made where they are read
+-- (this project's own rule).
 use Rattle.std.specs.Prelude.{◌==◌, List, if◌then◌else◌}
 use Rattle.cu_expr.specs.declared.inputs.InputInfo.{InputInfo}
 use Rattle.cu_form.specs.Expression.{Expression}
@@ -15,8 +15,8 @@ use Rattle.cu_op.specs.Elements.{Elements}
 use Rattle.cu_op.specs.Value.{HasTypes}
 use Rattle.cu_plan.specs.Inlined.{inlined_of}
 
--- With maps that load an array once, merged; with copies joined; and with arrays that are made where
--- they are read.
+-- With maps that load an array once, merged; with copies joined; and with arrays that are made
+-- where they are read.
 abbrev pub inlined_plan_of : PlanView → PlanView
 inlined_plan_of p = inlined_of (copies_joined (fused_loading_once p))
 
@@ -29,7 +29,8 @@ merged_plan_of e infos inputs options =
     else fused (plan_of e infos inputs options)
 
 -- the inputs' arrays have elements of their types, and the input nodes have these
-pub record HaveInputElements (e : Expression) (infos : List NodeInfo) (inputs : List InputInfo) (options : Options) (env : Elements) (elements : NodeElements) : Type 0 where
+pub record HaveInputElements (e : Expression) (infos : List NodeInfo) (inputs : List InputInfo)
+    (options : Options) (env : Elements) (elements : NodeElements) : Type 0 where
   pub lowerable : IsLowerable e infos inputs options
   pub typed : HasTypes (merged_plan_of e infos inputs options).arrays env
   pub given : AreOfInputs e infos env elements

@@ -21,30 +21,40 @@ memory_fault allowed n = OverMemory n.node n.need allowed
 abbrev pub limit_fault : Exceeded → PlanFault
 limit_fault o = OverLimit o.which o.count
 
--- the tasks and the stored chunks of the plan in which nothing is merged, whose copies are made within what is allowed
+-- the tasks and the stored chunks of the plan in which nothing is merged, whose copies are made
+-- within what is allowed
 abbrev pub planned_counts : Options → Expression → List NodeInfo → PlanCounts
-planned_counts options e infos = plan_counts (max_mem options.allowed options.reserved) options.split_every e infos
+planned_counts options e infos =
+    plan_counts (max_mem options.allowed options.reserved) options.split_every e infos
 
--- the first live node that needs more than is allowed; where none does, the first limit that is exceeded; else there is none
+-- the first live node that needs more than is allowed; where none does, the first limit that is
+-- exceeded; else there is none
 abbrev pub refusal_of : Options → Expression → List NodeInfo → Option PlanFault
 refusal_of options e infos =
-    option_or (option_map (memory_fault options.allowed) (first_over options.allowed options.reserved options.split_every e infos))
+    option_or
+    (option_map (memory_fault options.allowed)
+    (first_over options.allowed options.reserved options.split_every e infos))
     (option_map limit_fault (over_limit (planned_counts options e infos)))
 
 -- ---- the same in other words
 
 -- no live node needs more than is allowed
 abbrev pub AreWithin : Options → Expression → List NodeInfo → Type 0
-AreWithin options e infos = (k : ℕ) (node : Node) → IsLiveNode e k node → need_of options.reserved options.split_every infos e.out k node.form ≤ options.allowed
+AreWithin options e infos = (k : ℕ) (node : Node) → IsLiveNode e k node
+    → need_of options.reserved options.split_every infos e.out k node.form ≤ options.allowed
 
 -- this is the first live node that does, with what it needs
 abbrev pub IsFirstNode : Options → Expression → List NodeInfo → ℕ → ℕ → Type 0
-IsFirstNode options e infos node need = IsFirstOver options.allowed options.reserved options.split_every e infos (record { node = node; need = need })
+IsFirstNode options e infos node need =
+    IsFirstOver options.allowed options.reserved options.split_every e infos
+    (record { node = node; need = need })
 
--- the limit of 65,536 tasks is exceeded; or it is kept, and that of 262,144 stored chunks is exceeded
+-- the limit of 65,536 tasks is exceeded; or it is kept, and that of 262,144 stored chunks is
+-- exceeded
 abbrev pub IsFirstLimit : PlanCounts → ℕ → ℕ → Type 0
 IsFirstLimit c which count =
-    ((which ≡ 1) × (count ≡ c.tasks) × (65536 < c.tasks)) ⊎ ((which ≡ 2) × (count ≡ c.cells) × (c.tasks ≤ 65536) × (262144 < c.cells))
+    ((which ≡ 1) × (count ≡ c.tasks) × (65536 < c.tasks))
+    ⊎ ((which ≡ 2) × (count ≡ c.cells) × (c.tasks ≤ 65536) × (262144 < c.cells))
 
 -- ---- an answer
 

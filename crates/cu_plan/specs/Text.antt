@@ -1,5 +1,6 @@
--- The text that says what a plan does, operation by operation, of those whose results are stored. This project's own lines; numbers are
--- decimal, and an operation is called by its number among these.
+-- The text that says what a plan does, operation by operation, of those whose results are stored.
+-- This project's own lines; numbers are decimal, and an operation is called by its number among
+-- these.
 use Rattle.std.specs.Prelude.{ℕ, List, [], ◌∷◌, ◌++◌, codes, flat_map, length, map, sum_by}
 use Rattle.std.specs.List.{join_by}
 use Rattle.std.specs.Fmt.{decimal}
@@ -26,8 +27,10 @@ peak_of p = largest (map (λ k. (operation_at p.ops k).projected) (listed p))
 
 -- `op K KIND node=N tasks=T cells=C projected=P`
 unfoldable pub operation_fields : List ArrayInfo → ℕ → Planned → List ℕ
-operation_fields arrays number o = codes "op " ++ decimal number ++ codes " " ++ kind_text o.op ++ codes " node=" ++ decimal o.node
-    ++ codes " tasks=" ++ decimal (tasks_of arrays o.op) ++ codes " cells=" ++ decimal (cells_of arrays o.op) ++ codes " projected=" ++ decimal o.projected
+operation_fields arrays number o =
+    codes "op " ++ decimal number ++ codes " " ++ kind_text o.op ++ codes " node=" ++ decimal o.node
+    ++ codes " tasks=" ++ decimal (tasks_of arrays o.op) ++ codes " cells="
+    ++ decimal (cells_of arrays o.op) ++ codes " projected=" ++ decimal o.projected
 
 abbrev pub fields_of : PlanView → ℕ → List ℕ
 fields_of p k = operation_fields p.arrays (listed_number p k) (operation_at p.ops k)
@@ -40,16 +43,22 @@ operation_line p k = fields_of p k ++ 10 ∷ []
 abbrev pub comma_text : List ℕ → List ℕ
 comma_text numbers = join_by decimal (44 ∷ []) numbers
 
--- `op K KIND node=N tasks=T cells=C projected=P reads=J,..`, with a line feed: J are the operations that it waits for
+-- `op K KIND node=N tasks=T cells=C projected=P reads=J,..`, with a line feed: J are the operations
+-- that it waits for
 abbrev pub begun_line : PlanView → ℕ → List ℕ
-begun_line p k = fields_of p k ++ codes " reads=" ++ comma_text (map (listed_number p) (sources_of p k)) ++ 10 ∷ []
+begun_line p k =
+    fields_of p k ++ codes " reads=" ++ comma_text (map (listed_number p) (sources_of p k))
+    ++ 10 ∷ []
 
 -- ---- the whole text
 
--- `plan ops=N tasks=T cells=C peak=P`, with a line feed: all tasks, and the chunks of all arrays that are made and stored
+-- `plan ops=N tasks=T cells=C peak=P`, with a line feed: all tasks, and the chunks of all arrays
+-- that are made and stored
 unfoldable pub plan_line : PlanView → List ℕ
-plan_line p = codes "plan ops=" ++ decimal (length (listed p)) ++ codes " tasks=" ++ decimal (sum_by (λ o. tasks_of p.arrays o.op) p.ops)
-    ++ codes " cells=" ++ decimal (sum_by made_chunks p.arrays) ++ codes " peak=" ++ decimal (peak_of p) ++ 10 ∷ []
+plan_line p =
+    codes "plan ops=" ++ decimal (length (listed p)) ++ codes " tasks="
+    ++ decimal (sum_by (λ o. tasks_of p.arrays o.op) p.ops) ++ codes " cells="
+    ++ decimal (sum_by made_chunks p.arrays) ++ codes " peak=" ++ decimal (peak_of p) ++ 10 ∷ []
 
 -- a line for each of these operations, and then that of the plan
 abbrev pub plan_text : PlanView → List ℕ

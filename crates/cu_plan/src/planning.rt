@@ -56,7 +56,8 @@ fn check(options: &Options, expr: &Expr, infos: &[NodeInfo]) -> Result<(), PlanF
     requires options { AreOptions options.now }
     requires limits { AreWithinLimits expr.now infos.now }
     ensures accepted { OnOk result (refusal_of options.now expr.now infos.now ≡ None) }
-    ensures refused { IfErr result (λ fault. refusal_of options.now expr.now infos.now ≡ Some fault) }
+    ensures refused { IfErr result
+        (λ fault. refusal_of options.now expr.now infos.now ≡ Some fault) }
 {
     let Options {
         allowed,
@@ -81,8 +82,8 @@ fn check(options: &Options, expr: &Expr, infos: &[NodeInfo]) -> Result<(), PlanF
     }
 }
 
-/// A plan of stored arrays after the merges of its maps, each of which loads an array once, in which
-/// copies are joined and arrays are made where they are read.
+/// A plan of stored arrays after the merges of its maps, each of which loads an array once, in
+/// which copies are joined and arrays are made where they are read.
 fn inlined(alloc: Global, plan: Plan) -> Result<Plan, NoMemory>
     requires names { HasMadeNames plan }
     requires stored { AllStored plan.arrays }
@@ -109,7 +110,8 @@ fn merged(
     options: &Options,
 ) -> Result<Plan, NoMemory>
     requires { IsLowerable expr.now infos.now inputs.now options.now }
-    ensures plan { IfOk result (λ plan. plan ≡ merged_plan_of expr.now infos.now inputs.now options.now) }
+    ensures plan { IfOk result
+        (λ plan. plan ≡ merged_plan_of expr.now infos.now inputs.now options.now) }
     ensures sound { IfOk result Sound }
     ensures needs { IfOk result (λ plan. All (λ o. o.projected ≤ options.now.allowed) plan.ops) }
 {
@@ -123,11 +125,12 @@ fn merged(
     }
 }
 
-/// The plan of an expression whose nodes have these types over these inputs. It is refused where a live node needs more than is allowed,
-/// by the first that does, and else where its tasks or its stored chunks are too many, as they are before maps are merged. Then maps are
-/// merged in it where that needs no more than is allowed, so that each of its operations needs at most that. With the option
-/// `--fusion 2` each map also loads an array once, copies are joined, and arrays are made where they are read, where that too needs no
-/// more.
+/// The plan of an expression whose nodes have these types over these inputs. It is refused where a
+/// live node needs more than is allowed, by the first that does, and else where its tasks or its
+/// stored chunks are too many, as they are before maps are merged. Then maps are merged in it where
+/// that needs no more than is allowed, so that each of its operations needs at most that. With the
+/// option `--fusion 2` each map also loads an array once, copies are joined, and arrays are made
+/// where they are read, where that too needs no more.
 pub fn plan(
     alloc: Global,
     expr: &Expr,
@@ -138,7 +141,8 @@ pub fn plan(
     requires types { typed inputs.now expr.now ≡ Ok types.now }
     requires layouts { All (λ i. IsLayout i.layout) inputs.now }
     requires options { AreOptions options.now }
-    ensures plan { IfOk result (λ plan. plan ≡ merged_plan_of expr.now types.now inputs.now options.now) }
+    ensures plan { IfOk result
+        (λ plan. plan ≡ merged_plan_of expr.now types.now inputs.now options.now) }
     ensures sound { IfOk result Sound }
     ensures needs { IfOk result (λ plan. All (λ o. o.projected ≤ options.now.allowed) plan.ops) }
     ensures lowerable { OnOk result (IsLowerable expr.now types.now inputs.now options.now) }

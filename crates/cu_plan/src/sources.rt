@@ -12,7 +12,8 @@ use std::alloc::{AllocError, Global};
 /// have among those whose results are stored.
 pub(crate) fn source_numbers(alloc: Global, plan: &Plan, op: u32) -> Result<Vec<u32>, AllocError>
     requires { op < length plan.now.ops }
-    ensures { IfOk result (λ numbers. numbers.items ≡ map (listed_number plan.now) (sources_of plan.now op)) }
+    ensures { IfOk result (λ numbers. numbers.items
+        ≡ map (listed_number plan.now) (sources_of plan.now op)) }
 {
     let mut numbers = Vec::new(alloc);
     for other in 0..op {

@@ -4,11 +4,11 @@ ghost use Rattle.cu_num.specs.Dtype.{size_of, InRange};
 ghost use Rattle.cu_shape.specs.Index.{product, differences};
 ghost use Rattle.cu_grid.specs.Counts.{IsRegion};
 ghost use Rattle.cu_grid.specs.Cover.{Meets};
-ghost use Rattle.cu_store.specs.Chunks.{Keeps, StaysOpen};
+ghost use Rattle.cu_store.specs.Chunks.{Adds, Keeps, StaysOpen};
 ghost use Rattle.cu_store.specs.Steps.{NoChange, Steps};
 ghost use Rattle.cu_region.specs.Reading.{key_at, IsChunkKey, bytes_of, Fetches, ReadsChunk, HasChunk, ReadsRegion, IsChunkReadFault};
 ghost use Rattle.cu_region.specs.RegionPart.{IsRegionPart, key_of_part, bytes_of_chunk, bytes_of_region, ReadsRegionPart};
-ghost use Rattle.cu_region.specs.Calls.{chunks_met, Made};
+ghost use Rattle.cu_region.specs.Calls.{chunks_met, region_tally, Made};
 ghost use Rattle.cu_region.specs.Steady.{IsSteady, HoldSame};
 ghost use Rattle.cu_region.specs.Writing.{AreElements};
 
@@ -53,6 +53,8 @@ pub fn read_region_of<C: Chunks>(
     ensures cause { IfErr result (IsChunkReadFault (C.shown access.old) (C.shown access.new)
         (IsChunkKey info.now region.now.lo region.now.hi) (bytes_of info.now.layout)) }
     ensures calls_all { OnOk result (Made (chunks_met info.now.layout.grid region.now.lo region.now.hi) (C.shown access.old).calls (C.shown access.new).calls) }
+    ensures called { OnOk result (Adds (region_tally (C.weight store.now) info.now region.now.lo region.now.hi)
+        (C.tally access.old) (C.tally access.new)) }
 {
     for coord in info.layout.grid.cover(region) {
         let part = RegionPart {
@@ -85,6 +87,7 @@ pub fn read_chunk<C: Chunks>(
     ensures elements { OnOk result (AreElements info.now.layout.dtype buf.new) }
     ensures open { StaysOpen (C.belongs store.now access.new) (C.may_get store.now access.old) (C.may_get store.now access.new) }
     ensures step { Steps NoChange 1 1 (C.shown access.old) (C.shown access.new) }
+    ensures called { Adds (C.weight store.now (key_at info.now coord.now)) (C.tally access.old) (C.tally access.new) }
     ensures cause { IfErr result (IsChunkReadFault (C.shown access.old) (C.shown access.new)
         (λ key. key ≡ key_at info.now coord.now) (bytes_of info.now.layout)) }
 {
@@ -112,6 +115,7 @@ fn read_part<C: Chunks>(
         out.new) }
     ensures open { StaysOpen (C.belongs store.now access.new) (C.may_get store.now access.old) (C.may_get store.now access.new) }
     ensures step { Steps NoChange 1 1 (C.shown access.old) (C.shown access.new) }
+    ensures called { Adds (C.weight store.now (key_of_part part.now)) (C.tally access.old) (C.tally access.new) }
     ensures cause { IfErr result (IsChunkReadFault (C.shown access.old) (C.shown access.new)
         (λ key. key ≡ key_of_part part.now) (bytes_of_chunk part.now)) }
 {
@@ -149,6 +153,7 @@ fn read_bytes<C: Chunks>(
     ensures read { OnOk result (ReadsChunk layout.now (C.shown access.new).held key.now buf.new) }
     ensures open { StaysOpen (C.belongs store.now access.new) (C.may_get store.now access.old) (C.may_get store.now access.new) }
     ensures step { Steps NoChange 1 1 (C.shown access.old) (C.shown access.new) }
+    ensures called { Adds (C.weight store.now key.now) (C.tally access.old) (C.tally access.new) }
     ensures cause { IfErr result (IsChunkReadFault (C.shown access.old) (C.shown access.new)
         (λ bad. bad ≡ key.now) (bytes_of layout.now)) }
 {
@@ -172,6 +177,7 @@ fn fetch<C: Chunks>(
     ensures fetched { IfOk result (λ e. Fetches layout.now (C.shown access.new).held key.now e buf.new) }
     ensures open { StaysOpen (C.belongs store.now access.new) (C.may_get store.now access.old) (C.may_get store.now access.new) }
     ensures step { Steps NoChange 1 1 (C.shown access.old) (C.shown access.new) }
+    ensures called { Adds (C.weight store.now key.now) (C.tally access.old) (C.tally access.new) }
     ensures cause { IfErr result (IsChunkReadFault (C.shown access.old) (C.shown access.new)
         (λ bad. bad ≡ key.now) (bytes_of layout.now)) }
 {

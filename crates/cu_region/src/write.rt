@@ -5,9 +5,9 @@ ghost use Rattle.cu_shape.specs.Index.{product, differences};
 ghost use Rattle.cu_grid.specs.Counts.{IsRegion};
 ghost use Rattle.cu_grid.specs.Cover.{Meets};
 ghost use Rattle.cu_store.specs.Held.{Holds};
-ghost use Rattle.cu_store.specs.Chunks.{Keeps, Allows, StaysOpen};
+ghost use Rattle.cu_store.specs.Chunks.{Adds, Keeps, Allows, StaysOpen};
 ghost use Rattle.cu_store.specs.Steps.{PutOf, Steps};
-ghost use Rattle.cu_region.specs.Calls.{chunks_met, Made};
+ghost use Rattle.cu_region.specs.Calls.{chunks_met, region_tally, Made};
 ghost use Rattle.cu_region.specs.Reading.{bytes_of, IsChunkKey};
 ghost use Rattle.cu_region.specs.RegionPart.{IsRegionPart, key_of_part, bytes_of_chunk, IsAllOfChunk, HasWholeParts, value_of_part, StoresPart, PutOfRegion};
 ghost use Rattle.cu_region.specs.Writing.{AreElements, HasWholeChunks, RegionPut, LateIsOwn, StoresRegion, IsWriteFault};
@@ -49,6 +49,8 @@ pub fn write_region_of<C: Chunks>(
         (C.shown access.old) (C.shown access.new) }
     ensures cause { IfErr result (IsWriteFault (C.shown access.old).faults (C.shown access.new).faults (C.shown access.new).lacks) }
     ensures calls_all { OnOk result (Made (chunks_met info.now.layout.grid region.now.lo region.now.hi) (C.shown access.old).calls (C.shown access.new).calls) }
+    ensures called { OnOk result (Adds (region_tally (C.weight store.now) info.now region.now.lo region.now.hi)
+        (C.tally access.old) (C.tally access.new)) }
 {
     for coord in info.layout.grid.cover(region) {
         let part = RegionPart {
@@ -80,6 +82,7 @@ fn write_part<C: Chunks>(
     ensures open { StaysOpen (C.belongs store.now access.new) (C.may_get store.now access.old) (C.may_get store.now access.new) }
     ensures step { Steps (PutOfRegion part.now input.now) 1 1 (C.shown access.old)
         (C.shown access.new) }
+    ensures called { Adds (C.weight store.now (key_of_part part.now)) (C.tally access.old) (C.tally access.new) }
     ensures cause { IfErr result (IsWriteFault (C.shown access.old).faults (C.shown access.new).faults (C.shown access.new).lacks) }
 {
     let key = chunk_key(&part.info.prefix, part.info.layout.encoding, &part.coord);
@@ -116,6 +119,7 @@ fn put_chunk<C: Chunks>(
     ensures stored { OnOk result (Holds (C.shown access.new).held key.now bytes.now) }
     ensures open { StaysOpen (C.belongs store.now access.new) (C.may_get store.now access.old) (C.may_get store.now access.new) }
     ensures step { Steps (PutOf key.now bytes.now) 1 1 (C.shown access.old) (C.shown access.new) }
+    ensures called { Adds (C.weight store.now key.now) (C.tally access.old) (C.tally access.new) }
     ensures cause { IfErr result (IsWriteFault (C.shown access.old).faults (C.shown access.new).faults (C.shown access.new).lacks) }
 {
     match C::put(store, access, key, bytes) {

@@ -6,8 +6,8 @@ ghost use Rattle.cu_grid.specs.Counts.{IsRegion};
 ghost use Rattle.cu_grid.specs.Cover.{Meets};
 ghost use Rattle.cu_store.specs.Steps.{NoChange, Steps};
 ghost use Rattle.cu_store.specs.Yard.{shown_by, MayGet, MayPut};
-ghost use Rattle.cu_store.specs.Chunks.{Keeps, Allows};
-ghost use Rattle.cu_region.specs.Calls.{chunks_met, Made};
+ghost use Rattle.cu_store.specs.Chunks.{Adds, Keeps, Allows};
+ghost use Rattle.cu_region.specs.Calls.{chunks_met, region_tally, Made};
 ghost use Rattle.cu_region.specs.Passes.{IsLaterIn};
 ghost use Rattle.cu_region.specs.Reading.{IsChunkKey, bytes_of, ReadsRegion, IsChunkReadFault};
 ghost use Rattle.cu_region.specs.Writing.{AreElements, HasWholeChunks, RegionPut, StoresRegion, IsWriteFault};
@@ -48,6 +48,8 @@ pub fn read_region<Y: Yard>(
     ensures cause { IfErr result (IsChunkReadFault (shown_by (Y.knows pass.old)) (shown_by (Y.knows pass.new))
         (IsChunkKey info.now region.now.lo region.now.hi) (bytes_of info.now.layout)) }
     ensures calls_all { OnOk result (Made (chunks_met info.now.layout.grid region.now.lo region.now.hi) (Y.knows pass.old).calls (Y.knows pass.new).calls) }
+    ensures called { OnOk result (Adds (region_tally (Y.weight yard.now) info.now region.now.lo region.now.hi)
+        (Y.tally pass.old) (Y.tally pass.new)) }
 {
     read_region_of::<InYard<Y>>(yard, pass, info, region, out, scratch)
 }
@@ -83,6 +85,8 @@ pub fn write_region<Y: Yard>(
         (shown_by (Y.knows pass.old)) (shown_by (Y.knows pass.new)) }
     ensures cause { IfErr result (IsWriteFault (Y.knows pass.old).faults (Y.knows pass.new).faults (Y.knows pass.new).lacks) }
     ensures calls_all { OnOk result (Made (chunks_met info.now.layout.grid region.now.lo region.now.hi) (Y.knows pass.old).calls (Y.knows pass.new).calls) }
+    ensures called { OnOk result (Adds (region_tally (Y.weight yard.now) info.now region.now.lo region.now.hi)
+        (Y.tally pass.old) (Y.tally pass.new)) }
 {
     write_region_of::<InYard<Y>>(yard, pass, info, region, input, scratch)
 }

@@ -3,7 +3,7 @@ ghost use Rattle.std.specs.Prelude.{List, ℕ, OnOk};
 ghost use Rattle.cu_store.specs.Held.{Gets, Holds};
 ghost use Rattle.cu_store.specs.Steps.{Shown, NoChange, PutOf, Steps, Caused};
 ghost use Rattle.cu_store.specs.Yard.{shown_by, MayGet, MayPut};
-ghost use Rattle.cu_store.specs.Chunks.{StaysOpen};
+ghost use Rattle.cu_store.specs.Chunks.{Adds, StaysOpen};
 
 use crate::{Depot, DepotFault, Got, Key, Yard};
 use std::marker::PhantomData;
@@ -28,6 +28,13 @@ pub trait Chunks {
     /// Which keys may be put, with which bytes.
     ghost may_put: { Self.Store → List ℕ → List ℕ → Type 0 };
 
+    /// How much a call for a key adds to the tally of an access. A store gives any weights: with 1 for one key and 0 for all
+    /// others, the tally is how often that key was called. One that gives none tells nothing of this.
+    ghost weight: { Self.Store → List ℕ → ℕ } = { λ _ _. 0 };
+
+    /// The tally of an access: the weights of all calls that it made, together.
+    ghost tally: { Self.Access → ℕ } = { λ _. 0 };
+
     /// Copies as many bytes of the key's value as `buf` has room for, and says how long the value is.
     fn get(
         store: &Self::Store,
@@ -40,6 +47,7 @@ pub trait Chunks {
         ensures got { Gets (shown access.new).held key.now buf.new result }
         ensures step { Steps NoChange 1 1 (shown access.old) (shown access.new) }
         ensures cause { Caused 1 (shown access.old) (shown access.new) result }
+        ensures called { Adds (weight store.now key.now) (tally access.old) (tally access.new) }
         ensures open { StaysOpen (belongs store.now access.new) (may_get store.now access.old) (may_get store.now access.new) };
 
     /// Stores these bytes under the key.
@@ -54,11 +62,12 @@ pub trait Chunks {
         ensures stored { OnOk result (Holds (shown access.new).held key.now bytes.now) }
         ensures step { Steps (PutOf key.now bytes.now) 1 1 (shown access.old) (shown access.new) }
         ensures cause { Caused 1 (shown access.old) (shown access.new) result }
+        ensures called { Adds (weight store.now key.now) (tally access.old) (tally access.new) }
         ensures got { OnOk result (may_get store.now access.new key.now) }
         ensures open { StaysOpen (belongs store.now access.new) (may_get store.now access.old) (may_get store.now access.new) };
 }
 
-/// Chunks that lie straight in a depot. Any key may be asked for and put.
+/// Chunks that lie straight in a depot. Any key may be asked for and put. Their calls have no weight.
 pub struct InDepot<D: Depot> {
     of: PhantomData<D>,
 }
@@ -103,6 +112,10 @@ impl<Y: Yard> Chunks for InYard<Y> {
     ghost may_get = { λ yard pass key. MayGet (Y.serves yard).specs (Y.knows pass).seen key };
 
     ghost may_put = { λ yard key bytes. MayPut (Y.serves yard) key bytes };
+
+    ghost weight = { Y.weight };
+
+    ghost tally = { Y.tally };
 
     fn get(store: &Y, access: &mut Y::Pass, key: &Key, buf: &mut [u8]) -> Result<Got, DepotFault> {
         store.get(access, key, buf)

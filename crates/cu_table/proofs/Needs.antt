@@ -1,8 +1,9 @@
 -- What is known of the makers of the chunks that a region needs, walk by walk.
-use Rattle.std.proofs.Common.{◌≡◌, ◌≢◌, inl, inr, ℕ, ◌+◌, ◌<◌, true, false, List, [], length, get_or, All, Contains, None, Some, refl, ap, sym, ◌∙◌, subst, arith}
+use Rattle.std.proofs.Common.{◌≡◌, ◌≢◌, inl, inr, ℕ, ◌+◌, ◌<◌, true, false, List, [], length, map, get_or, All, Contains, Option, None, Some, is_some, refl, ap, sym, ◌∙◌, subst, arith}
 use Rattle.std.proofs.lemmas.Bool.{cases_order}
-use Rattle.std.proofs.lemmas.List.{get_or_default}
-use Rattle.std.proofs.lemmas.List.Elements.{All-contains, All-contains_itself, All-map}
+use Rattle.std.proofs.lemmas.List.{get_or_default, get_or_read}
+use Rattle.std.proofs.lemmas.List.Elements.{All-contains, All-contains_itself, All-head, All-map}
+use Rattle.std.specs.Iterator.{YieldsFirst}
 use Rattle.std.specs.List.{flat_map}
 use Rattle.cu_grid.specs.Cover.{covering}
 use Rattle.cu_op.specs.Arrays.{array_at, grid_at, is_inlined, maker_at}
@@ -25,7 +26,7 @@ use Rattle.cu_op.proofs.KindLaws.{laws_of}
 use Rattle.cu_op.proofs.Plans.{grid_ok}
 use Rattle.cu_op.proofs.TaskCells.{fit_of}
 use Rattle.cu_op.proofs.TaskInputs.{reads_same}
-use Rattle.cu_op.proofs.WalkCells.{All-new_walks}
+use Rattle.cu_op.proofs.WalkCells.{All-new_walks, from_walk, kept_walk}
 use Rattle.cu_table.specs.Numbers.{IsTask}
 use Rattle.cu_table.specs.Sources.{IsMakerDone, IsPullOp, NeedsEach, TellsOf}
 use Rattle.cu_table.specs.declared.sources.Sources.{Sources}
@@ -36,10 +37,14 @@ use Rattle.cu_table.proofs.Views.{some_chunk, view_needs}
 abbrev pub fetched_at : TaskView → ℕ → List Cell
 fetched_at t place = flat_map (chunks_deep read_chunks t.plan t.op) (walk_cells t.plan.arrays (walk_at t place))
 
--- what is known after the walks before a place
+-- of the makers of what is fetched for the walks before a place no task is left
+abbrev AreDoneBefore : TaskView → List ℕ → ℕ → Type 0
+AreDoneBefore t counts at = (place : ℕ) → place < at → All (IsMakerDone t.plan.arrays counts) (fetched_at t place)
+
+-- what is known after these walks
 abbrev pub TellsBefore : TaskView → List ℕ → ℕ → Sources → Type 0
-TellsBefore t counts at Complete = (place : ℕ) → place < at → All (IsMakerDone t.plan.arrays counts) (fetched_at t place)
-TellsBefore t counts at Partial = Unit {0}
+TellsBefore t counts at Complete = AreDoneBefore t counts at
+TellsBefore t counts at Partial = AreDoneBefore t counts at → ⊥
 TellsBefore t counts at (Awaited k) = NeedsEach t counts k
 
 module _ (t : TaskView) (s : Sound t.plan) (counts : List ℕ) where
@@ -65,6 +70,11 @@ module _ (t : TaskView) (s : Sound t.plan) (counts : List ℕ) where
   array_is place h ws d info same found =
       sym (found ∙ ap (λ (xs : List Walk). array_at t.plan.arrays (get_or xs place d).array) same ∙ ap (λ (w : Walk). array_at t.plan.arrays w.array) (get_or_default walks place d (walk 0 [] []) h))
 
+  -- what is read at a place of the list
+  pub walk_is : (place : ℕ) → place < length (input_walks t.plan.arrays (task_op t) t.number) → (ws : List Walk) (w : Walk) → ws ≡ input_walks t.plan.arrays (task_op t) t.number
+      → w ≡ get_or ws place w → w ≡ walk_at t place
+  walk_is place h ws w same is = get_or_read walks place w h (subst (λ (xs : List Walk). w ≡ get_or xs place w) same is) (walk 0 [] [])
+
   -- ---- a stored array
 
   -- its maker has no task left, if it has one
@@ -79,6 +89,16 @@ module _ (t : TaskView) (s : Sound t.plan) (counts : List ℕ) where
   pub walk_made : (w : Walk) (source : ℕ) → maker_at t.plan.arrays w.array ≡ Some source → get_or counts source 0 ≡ 0
       → All (IsMakerDone t.plan.arrays counts) (walk_cells t.plan.arrays w)
   walk_made w source made done = walk_done w (λ k other. let same : source ≡ k = cc in subst (λ (j : ℕ). get_or counts j 0 ≡ 0) same done)
+
+  -- a chunk, whose maker has a task left
+  pub walk_left : (w : Walk) (source : ℕ) → maker_at t.plan.arrays w.array ≡ Some source → get_or counts source 0 ≢ 0
+      → (coords : List (List ℕ)) (first : Option (List ℕ)) (rest : List (List ℕ)) → coords ≡ covering (grid_at t.plan.arrays w.array).chunk w.region.lo w.region.hi
+      → YieldsFirst (λ (cs : List (List ℕ)). cs) coords first rest → is_some first ≡ true → All (IsMakerDone t.plan.arrays counts) (walk_cells t.plan.arrays w) → ⊥
+  walk_left w source made some coords None rest cover yields found all = absurd cc
+  walk_left w source made some coords (Some coord) rest cover yields found all =
+      let P = IsMakerDone t.plan.arrays counts in
+      let cells = subst (λ (cs : List (List ℕ)). All P (map (cell w.array) cs)) (sym cover ∙ yields) all in
+      some (All-head P (cell w.array coord) (map (cell w.array) rest) cells source made)
 
   -- a view needs all that the maker of a source makes
   pub walk_needs : (place : ℕ) → place < length (input_walks t.plan.arrays (task_op t) t.number) → is_inlined t.plan.arrays (walk_at t place).array ≡ false
@@ -102,9 +122,7 @@ module _ (t : TaskView) (s : Sound t.plan) (counts : List ℕ) where
   -- what is told of its chunks
   pub stored_tells : (place : ℕ) → is_inlined t.plan.arrays (walk_at t place).array ≡ false → (found : Sources)
       → TellsOf t counts (walk_cells t.plan.arrays (walk_at t place)) found → TellsOf t counts (fetched_at t place) found
-  stored_tells place stored Complete told = subst (All (IsMakerDone t.plan.arrays counts)) (sym (stored_walk t.plan s t.op (walk_at t place) stored)) told
-  stored_tells place stored Partial told = tt
-  stored_tells place stored (Awaited k) told = told
+  stored_tells place stored found told = subst (λ (cells : List Cell). TellsOf t counts cells found) (sym (stored_walk t.plan s t.op (walk_at t place) stored)) told
 
   -- ---- an array that is made where it is read
 
@@ -120,7 +138,9 @@ module _ (t : TaskView) (s : Sound t.plan) (counts : List ℕ) where
   inner_tells place h made inner stands Complete told =
       let there = subst (λ (q : PlanView). All (IsMakerDone q.arrays counts) (fetched_chunks q inner.op inner.number)) stands.plan told in
       subst (All (IsMakerDone t.plan.arrays counts)) (sym (inner_walk t.plan s t.op (walk_at t place) inner.op inner.number (readable_at place h) made stands.region)) there
-  inner_tells place h made inner stands Partial told = tt
+  inner_tells place h made inner stands Partial told =
+      let there = subst (λ (q : PlanView). All (IsMakerDone q.arrays counts) (fetched_chunks q inner.op inner.number) → ⊥) stands.plan told in
+      subst (λ (cells : List Cell). All (IsMakerDone t.plan.arrays counts) cells → ⊥) (sym (inner_walk t.plan s t.op (walk_at t place) inner.op inner.number (readable_at place h) made stands.region)) there
   inner_tells place h made inner stands (Awaited k) told = record {
     some = told.some;
     makes = λ n is.
@@ -139,8 +159,8 @@ module _ (t : TaskView) (s : Sound t.plan) (counts : List ℕ) where
 
   -- ---- one walk more, and all of them
 
-  pub one_partial : (at : ℕ) → TellsBefore t counts (at + 1) Partial
-  one_partial at = tt
+  pub one_partial : (at : ℕ) → TellsOf t counts (fetched_at t at) Partial → TellsBefore t counts (at + 1) Partial
+  one_partial at own = λ all. own (all at (omega arith))
 
   pub one_more : (at : ℕ) (found : Sources) → TellsBefore t counts at found → TellsOf t counts (fetched_at t at) Complete → TellsBefore t counts (at + 1) found
   one_more at Complete so_far own = λ place l.
@@ -149,8 +169,15 @@ module _ (t : TaskView) (s : Sound t.plan) (counts : List ℕ) where
         | inr (inl less) ↦ so_far place less
         | inr (inr more) ↦ absurd (omega (arith, l, more))
       ]
-  one_more at Partial so_far own = tt
+  one_more at Partial so_far own = λ all. so_far (λ place l. all place (omega (arith, l)))
   one_more at (Awaited k) so_far own = so_far
+
+  -- what is fetched for a walk is fetched for the region
+  fetched_whole : (place : ℕ) → place < length (input_walks t.plan.arrays (task_op t) t.number) → (c : Cell) → Contains (fetched_at t place) c → Contains (fetched_chunks t.plan t.op t.number) c
+  fetched_whole place h c there =
+      let deep = chunks_deep read_chunks t.plan t.op in
+      let (d, own, inside) = one_of deep (walk_cells t.plan.arrays (walk_at t place)) c there in
+      among deep (read_chunks t.plan.arrays (task_op t) t.number) d c (from_walk t.plan.arrays (new_walks walks []) (walk_at t place) d (kept_walk walks (walk_at t place) (listed place h)) own) inside
 
   pub all_tell : (at : ℕ) (found : Sources) → at ≡ length (input_walks t.plan.arrays (task_op t) t.number) → TellsBefore t counts at found
       → TellsOf t counts (fetched_chunks t.plan t.op t.number) found
@@ -165,5 +192,8 @@ module _ (t : TaskView) (s : Sound t.plan) (counts : List ℕ) where
       let own : walk_at t place ≡ w = get_or_default walks place (walk 0 [] []) w within ∙ is in
       let there = subst (λ (v : Walk). Contains (flat_map deep (walk_cells t.plan.arrays v)) c) (sym own) (among deep (walk_cells t.plan.arrays w) read c here inside) in
       All-contains (IsMakerDone t.plan.arrays counts) (fetched_at t place) c (so_far place (omega (arith, within, all))) there
-  all_tell at Partial all so_far = tt
+  all_tell at Partial all so_far = λ done.
+      so_far (λ place l i d h.
+      let c = get_or (fetched_at t place) i d in
+      All-contains (IsMakerDone t.plan.arrays counts) (fetched_chunks t.plan t.op t.number) c done (fetched_whole place (omega (arith, l, all)) c (All-contains_itself (fetched_at t place) i d h)))
   all_tell at (Awaited k) all so_far = so_far

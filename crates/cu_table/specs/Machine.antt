@@ -1,4 +1,5 @@
--- The task machine: what it knows of each task, which copies run, and why it ended. This project's own rules.
+-- The task machine: what it knows of each task, which copies run, and why it ended. This project's
+-- own rules.
 use Rattle.std.specs.Prelude.{◌≡◌, ◌≢◌, ℕ, ◌+◌, ◌-◌, ◌==◌, Bool, true, false, List, [], ◌∷◌, ◌++◌, map, All, set, Contains, slice_index_or, Option, None, if◌then◌else◌}
 use Rattle.cu_history.specs.declared.entry.Entry.{Entry}
 use Rattle.cu_op.specs.declared.cells.Cell.{Cell}
@@ -48,7 +49,8 @@ IsSingleTask p m op task = IsSingleState (state_at p m op task)
 
 -- task number t of operation k makes an input cell of task number `task` of operation op
 abbrev pub MakesInput : PlanView → ℕ → ℕ → ℕ → ℕ → Type 0
-MakesInput p k t op task = (c : Cell) × Contains (input_cells p op task) c × WritesCell p k t c.array c.coord
+MakesInput p k t op task = (c : Cell) × Contains (input_cells p op task) c
+    × WritesCell p k t c.array c.coord
 
 -- A task is ready where each task that makes one of its input cells is done.
 abbrev pub AreInputsDone : PlanView → Machine → ℕ → ℕ → Type 0
@@ -56,7 +58,8 @@ AreInputsDone p m op task = (k t : ℕ) → MakesInput p k t op task → IsDone 
 
 -- no ready task waits
 abbrev pub NoneWaits : PlanView → Machine → Type 0
-NoneWaits p m = (op task : ℕ) → IsTask p op task → AreInputsDone p m op task → IsWaiting p m op task → ⊥
+NoneWaits p m = (op task : ℕ) → IsTask p op task → AreInputsDone p m op task → IsWaiting p m op task
+    → ⊥
 
 -- no task runs in exactly one copy
 abbrev pub NoneSingle : PlanView → Machine → Type 0
@@ -114,4 +117,8 @@ copy_started p m e = record {
 
 -- the worker's copy of the task ends, and leaves the task in this state and the machine so
 abbrev pub copy_ended : PlanView → Machine → Entry → TaskState → Option Ending → Machine
-copy_ended p m e s ended = record { tasks = with_task p m e.op e.task s; copies = without e.worker m.copies; ended = ended }
+copy_ended p m e s ended = record {
+  tasks = with_task p m e.op e.task s;
+  copies = without e.worker m.copies;
+  ended = ended;
+}

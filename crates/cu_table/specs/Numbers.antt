@@ -1,4 +1,5 @@
--- The tasks of a plan by one number: those of operation 0 in order, then those of operation 1, and so on. This project's own rule.
+-- The tasks of a plan by one number: those of operation 0 in order, then those of operation 1, and
+-- so on. This project's own rule.
 use Rattle.std.specs.Prelude.{ℕ, ◌+◌, ◌<◌, length, take, sum_by}
 use Rattle.cu_op.specs.declared.operation.Planned.{Planned}
 use Rattle.cu_op.specs.Cells.{tasks_of}

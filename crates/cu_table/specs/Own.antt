@@ -13,7 +13,8 @@ left_running now (e ∷ es) = left_running (if is_start e.kind then Some (e.op, 
 -- the operation and task of the worker's copy
 abbrev pub running_of : List RunningCopy → ℕ → Option (ℕ × ℕ)
 running_of [] worker = None
-running_of (c ∷ cs) worker = if c.worker == worker then Some (c.op, c.task) else running_of cs worker
+running_of (c ∷ cs) worker =
+    if c.worker == worker then Some (c.op, c.task) else running_of cs worker
 
 -- an entry that ends a copy
 abbrev pub is_end : EventKind → Bool

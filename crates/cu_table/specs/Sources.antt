@@ -19,16 +19,18 @@ IsPullOp op = ⊥
 
 -- of the operation that makes a chunk, if one does, no task is left, by these counts
 abbrev pub IsMakerDone : List ArrayInfo → List ℕ → Cell → Type 0
-IsMakerDone arrays counts c = (k : ℕ) → maker_at arrays c.array ≡ Some k → slice_index_or counts k 0 ≡ 0
+IsMakerDone arrays counts c = (k : ℕ) → maker_at arrays c.array ≡ Some k
+    → slice_index_or counts k 0 ≡ 0
 
 -- some task of operation k is left, and each makes a chunk that is fetched for the region
 pub record NeedsEach (t : TaskView) (counts : List ℕ) (k : ℕ) : Type 0 where
   pub some : slice_index_or counts k 0 ≢ 0
   pub makes : (n : ℕ) → IsTask t.plan k n
-      → (c : Cell) × Contains (fetched_chunks t.plan t.op t.number) c × WritesCell t.plan k n c.array c.coord
+      → (c : Cell) × Contains (fetched_chunks t.plan t.op t.number) c
+      × WritesCell t.plan k n c.array c.coord
 
 -- what an answer tells of these chunks, which the region needs
 abbrev pub TellsOf : TaskView → List ℕ → List Cell → Sources → Type 0
 TellsOf t counts cells Complete = All (IsMakerDone t.plan.arrays counts) cells
-TellsOf t counts cells Partial = Unit {0}
+TellsOf t counts cells Partial = All (IsMakerDone t.plan.arrays counts) cells → ⊥
 TellsOf t counts cells (Awaited k) = NeedsEach t counts k

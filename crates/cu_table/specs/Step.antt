@@ -12,7 +12,8 @@ use Rattle.cu_table.specs.declared.state.Ending.TheVariants.{Broken, Halted}
 use Rattle.cu_table.specs.Numbers.{IsTask, task_count}
 use Rattle.cu_table.specs.Machine.{Machine, state_at, IsDone, IsWaiting, IsSingleTask, AreInputsDone, NoneWaits, RunsNothing, Runs, opening, copy_started, copy_ended, one_copy_less, done_now, failed_now}
 
--- what a machine goes by: the plan, how often a failed task is tried again, and whether second copies may be started
+-- what a machine goes by: the plan, how often a failed task is tried again, and whether second
+-- copies may be started
 pub record Settings : Type 0 where
   pub plan : PlanView
   pub retries : ℕ
@@ -21,7 +22,8 @@ pub record Settings : Type 0 where
 -- A ready waiting task; or, where none waits and backups are on, one that runs in exactly one copy.
 abbrev pub CanStart : Settings → Machine → ℕ → ℕ → Type 0
 CanStart s m op task =
-    (AreInputsDone s.plan m op task × IsWaiting s.plan m op task) ⊎ (NoneWaits s.plan m × (s.backups ≡ true) × IsSingleTask s.plan m op task)
+    (AreInputsDone s.plan m op task × IsWaiting s.plan m op task)
+    ⊎ (NoneWaits s.plan m × (s.backups ≡ true) × IsSingleTask s.plan m op task)
 
 -- when a worker may start a task
 pub record IsStart (s : Settings) (m : Machine) (e : Entry) : Type 0 where
@@ -56,14 +58,19 @@ ending_after retries failures op task = if failures == retries then Some (Broken
 -- from old, by an entry of this kind, to new
 abbrev pub StepOf : Settings → Machine → EventKind → Entry → Machine → Type 0
 StepOf s old Start e new = IsStart s old e × (new ≡ copy_started s.plan old e)
-StepOf s old Done e new = IsReport s.plan old e × (new ≡ copy_ended s.plan old e (done_now (state_at s.plan old e.op e.task)) None)
+StepOf s old Done e new = IsReport s.plan old e
+    × (new ≡ copy_ended s.plan old e (done_now (state_at s.plan old e.op e.task)) None)
 StepOf s old Failed e new =
     IsReport s.plan old e
-    × (new ≡ copy_ended s.plan old e (failed_now (state_at s.plan old e.op e.task)) (ending_after s.retries (state_at s.plan old e.op e.task).failures e.op e.task))
+    × (new ≡ copy_ended s.plan old e (failed_now (state_at s.plan old e.op e.task))
+    (ending_after s.retries (state_at s.plan old e.op e.task).failures e.op e.task))
 StepOf s old Halt e new =
     IsReport s.plan old e
-    × ((fault : TaskFault) × Halts fault × (new ≡ copy_ended s.plan old e (one_copy_less (state_at s.plan old e.op e.task)) (Some (Halted fault))))
-StepOf s old Late e new = IsLateReport s.plan old e × (new ≡ copy_ended s.plan old e (one_copy_less (state_at s.plan old e.op e.task)) old.ended)
+    × ((fault : TaskFault) × Halts fault
+    × (new ≡ copy_ended s.plan old e (one_copy_less (state_at s.plan old e.op e.task))
+    (Some (Halted fault))))
+StepOf s old Late e new = IsLateReport s.plan old e
+    × (new ≡ copy_ended s.plan old e (one_copy_less (state_at s.plan old e.op e.task)) old.ended)
 
 abbrev pub Step : Settings → Machine → Entry → Machine → Type 0
 Step s old e new = StepOf s old e.kind e new

@@ -1,4 +1,5 @@
--- What contracts see of a table, what a claim answers and what a report records. This project's own rules.
+-- What contracts see of a table, what a claim answers and what a report records. This project's own
+-- rules.
 use Rattle.std.specs.Prelude.{◌≡◌, ℕ, Bool, true, false, List, [], ◌∷◌, ◌++◌, sum_by, Option, Some, None, is_some, ◌||◌, Result, Ok, Err, if◌then◌else◌}
 use Rattle.cu_store.specs.declared.faults.TaskFault.{TaskFault}
 use Rattle.cu_store.specs.declared.faults.TaskFault.TheVariants.{Store}
@@ -35,7 +36,8 @@ pub record Goes (old new : TableView) (e : Entry) : Type 0 where
 -- ---- claims
 
 abbrev pub start_event : PlanView → ℕ → ℕ → ℕ → Entry
-start_event p worker op task = record { kind = Start; worker = worker; op = op; task = task; room = projection p op }
+start_event p worker op task =
+    record { kind = Start; worker = worker; op = op; task = task; room = projection p op }
 
 -- nothing can be started: no ready task waits, and no second copy may begin
 abbrev pub NoneStarts : Settings → Machine → Type 0
@@ -44,10 +46,14 @@ NoneStarts s m = NoneWaits s.plan m × (s.backups ≡ true → NoneSingle s.plan
 -- when each answer comes, and what it leaves
 abbrev pub IsClaim : TableView → ℕ → Claim → TableView → Type 0
 IsClaim old worker (claim.Run op task copy) new =
-    Goes old new (start_event old.settings.plan worker op task) × (copy ≡ (state_at old.settings.plan old.state op task).copies)
-IsClaim old worker claim.Idle new = (new ≡ old) × (old.state.ended ≡ None) × (AllDone old.settings.plan old.state → ⊥) × NoneStarts old.settings old.state
-IsClaim old worker claim.Finished new = (new ≡ old) × (old.state.ended ≡ None) × AllDone old.settings.plan old.state
-IsClaim old worker (claim.Broken op task) new = (new ≡ old) × (old.state.ended ≡ Some (Broken op task))
+    Goes old new (start_event old.settings.plan worker op task)
+    × (copy ≡ (state_at old.settings.plan old.state op task).copies)
+IsClaim old worker claim.Idle new = (new ≡ old) × (old.state.ended ≡ None)
+    × (AllDone old.settings.plan old.state → ⊥) × NoneStarts old.settings old.state
+IsClaim old worker claim.Finished new = (new ≡ old) × (old.state.ended ≡ None)
+    × AllDone old.settings.plan old.state
+IsClaim old worker (claim.Broken op task) new = (new ≡ old)
+    × (old.state.ended ≡ Some (Broken op task))
 IsClaim old worker (claim.Halted fault) new = (new ≡ old) × (old.state.ended ≡ Some (Halted fault))
 
 -- a claim would be told Idle, by any worker
@@ -82,7 +88,8 @@ state_after Failed s = failed_now s
 state_after kind s = one_copy_less s
 
 -- how the machine has ended after it, where it had `old` before and the task so many failures
-abbrev pub ending_of : ℕ → TaskId → ℕ → Option Ending → Result (Unit {0}) TaskFault → EventKind → Option Ending
+abbrev pub ending_of : ℕ → TaskId → ℕ → Option Ending → Result (Unit {0}) TaskFault → EventKind
+    → Option Ending
 ending_of retries id failures old outcome Failed = ending_after retries failures id.op id.task
 ending_of retries id failures old (Err fault) Halt = Some (Halted fault)
 ending_of retries id failures old outcome kind = old

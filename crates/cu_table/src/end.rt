@@ -7,7 +7,8 @@ use crate::state::{Ending, TaskId, TaskState};
 use cu_history::EventKind;
 use cu_store::TaskFault;
 
-/// The end of a copy: what is recorded, what its task was before and is now, and whether the machine has ended.
+/// The end of a copy: what is recorded, what its task was before and is now, and whether the
+/// machine has ended.
 #[derive(Clone, Copy)]
 pub(crate) struct End {
     pub(crate) kind: EventKind,
@@ -46,7 +47,8 @@ fn state_of(kind: EventKind, was: TaskState) -> TaskState
     state
 }
 
-/// Whether the machine has ended after it, and how: `retries + 1` failures break it, and a fault that isn't tried again halts it.
+/// Whether the machine has ended after it, and how: `retries + 1` failures break it, and a fault
+/// that isn't tried again halts it.
 fn ended_by(
     retries: u32,
     failures: u64,

@@ -30,9 +30,12 @@ fn finish(
     requires task { IsTask tasks.now id.op id.task }
     requires states { length states.now ≡ task_count tasks.now }
     requires before { was.done ≡ false }
-    requires done { (slice_index_or states.now (task_number tasks.now id.op id.task) no_task).done ≡ true }
-    requires counts { AreUndone tasks.now (set states.now (task_number tasks.now id.op id.task) was) undone.old }
-    requires queue { IsQueue tasks.now (of_tasks (set states.now (task_number tasks.now id.op id.task) was)) queue.old }
+    requires done { (slice_index_or states.now (task_number tasks.now id.op id.task) no_task).done
+        ≡ true }
+    requires counts { AreUndone tasks.now
+        (set states.now (task_number tasks.now id.op id.task) was) undone.old }
+    requires queue { IsQueue tasks.now
+        (of_tasks (set states.now (task_number tasks.now id.op id.task) was)) queue.old }
     requires copies { 1 ≤ was.copies }
     ensures counts { AreUndone tasks.now states.now undone.new }
     ensures queue { IsQueue tasks.now (of_tasks states.now) queue.new }
@@ -63,10 +66,14 @@ pub(crate) fn line_up(
 )
     requires task { IsTask tasks.now id.op id.task }
     requires states { length states.now ≡ task_count tasks.now }
-    requires state { slice_index_or states.now (task_number tasks.now id.op id.task) no_task ≡ end.now.state }
+    requires state { slice_index_or states.now (task_number tasks.now id.op id.task) no_task
+        ≡ end.now.state }
     requires leaves { LeavesAs end.now }
-    requires counts { AreUndone tasks.now (set states.now (task_number tasks.now id.op id.task) end.now.was) undone.old }
-    requires queue { end.now.ended ≡ None → IsQueue tasks.now (of_tasks (set states.now (task_number tasks.now id.op id.task) end.now.was)) queue.old }
+    requires counts { AreUndone tasks.now
+        (set states.now (task_number tasks.now id.op id.task) end.now.was) undone.old }
+    requires queue { end.now.ended ≡ None
+        → IsQueue tasks.now
+        (of_tasks (set states.now (task_number tasks.now id.op id.task) end.now.was)) queue.old }
     ensures counts { AreUndone tasks.now states.now undone.new }
     ensures queue { end.now.ended ≡ None → IsQueue tasks.now (of_tasks states.now) queue.new }
 {

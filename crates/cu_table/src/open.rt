@@ -1,5 +1,6 @@
 //! What a table begins with.
-ghost use Rattle.std.specs.Prelude.{◌≡◌, ◌+◌, ◌≤◌, [], take, drop, None, length, map, All, IfOk, vec_capacity};
+ghost use Rattle.std.specs.Prelude.{◌≡◌, ◌+◌, ◌≤◌, [], take, drop, None, length, map, All, IfOk};
+ghost use Rattle.std.specs.Prelude.{vec_capacity};
 ghost use Rattle.cu_table.specs.Numbers.{task_count};
 ghost use Rattle.cu_table.specs.Machine.{opened};
 ghost use Rattle.cu_table.specs.Queue.{IsQueue, AreUndone, of_tasks, IsFresh, HasRoom};
@@ -16,7 +17,8 @@ use cu_op::tasks as count_tasks;
 use cu_store::NoMemory;
 use std::alloc::Global;
 
-/// An empty history with room for `2 * (retries + 2)` entries a task, and the tasks, of which these are done.
+/// An empty history with room for `2 * (retries + 2)` entries a task, and the tasks, of which these
+/// are done.
 pub(crate) fn first_records(
     alloc: Global,
     tasks: &Tasks,
@@ -28,7 +30,8 @@ pub(crate) fn first_records(
     ensures tasks { IfOk result (λ r. r.tasks.items ≡ map opened done.now) }
     ensures copies { IfOk result (λ r. r.copies.items ≡ []) }
     ensures ended { IfOk result (λ r. r.ended ≡ None) }
-    ensures room { IfOk result (λ r. HasRoom tasks.now retries (vec_capacity r.history) (vec_capacity r.copies)) }
+    ensures room { IfOk result
+        (λ r. HasRoom tasks.now retries (vec_capacity r.history) (vec_capacity r.copies)) }
     ensures sound { Sound tasks.now }
 {
     let count = tasks.count();

@@ -1,5 +1,6 @@
 //! The lists in which waiting tasks stand: the ready ones, and those that watch a thing.
-ghost use Rattle.std.specs.Prelude.{◌≡◌, ◌<◌, ◌≤◌, ◌++◌, ◌∷◌, [], ℕ, ◌↔◌, IsTrue, length, sum_by, IfOk, MatchOption};
+ghost use Rattle.std.specs.Prelude.{◌≡◌, ◌<◌, ◌≤◌, ◌++◌, ◌∷◌, [], ℕ, ◌↔◌, IsTrue, length, sum_by};
+ghost use Rattle.std.specs.Prelude.{IfOk, MatchOption};
 ghost use Rattle.cu_table.specs.Queue.{Lined, times_in, watchers_of, pushed, watched};
 
 use crate::watch::Watchers;
@@ -7,7 +8,8 @@ use cu_store::NoMemory;
 use std::alloc::Global;
 use std::marker::Model;
 
-/// The ready waiting tasks by their numbers, the next to start last, and the tasks that watch each thing.
+/// The ready waiting tasks by their numbers, the next to start last, and the tasks that watch each
+/// thing.
 #[derive(Drop)]
 pub(crate) struct Queue {
     waiting: Vec<u32>,
@@ -20,7 +22,11 @@ impl Model for Queue {
 
     ghost Value = { Lined };
 
-    ghost view = { λ q. record { size = q.watchers.size; waiting = q.waiting.items; watching = q.watchers.lists } };
+    ghost view = { λ q. record {
+      size = q.watchers.size;
+      waiting = q.waiting.items;
+      watching = q.watchers.lists;
+    } };
 
     ghost invariant = { λ q. q.watchers.size ≤ vec_capacity q.waiting };
 }
@@ -60,7 +66,8 @@ impl Queue {
 
     /// Takes the next ready task.
     pub(crate) fn take(&mut self) -> Option<u32>
-        ensures task { MatchOption result ((self.old.waiting ≡ []) × (self.new ≡ self.old)) (λ t. self.old.waiting ≡ self.new.waiting ++ t ∷ []) }
+        ensures task { MatchOption result ((self.old.waiting ≡ []) × (self.new ≡ self.old))
+            (λ t. self.old.waiting ≡ self.new.waiting ++ t ∷ []) }
         ensures watching { self.new.watching ≡ self.old.watching }
         ensures size { self.new.size ≡ self.old.size }
     {
@@ -81,8 +88,10 @@ impl Queue {
     /// Takes a task that watches a thing.
     pub(crate) fn unwatch(&mut self, thing: usize) -> Option<u32>
         requires { thing < length self.old.watching }
-        ensures task { MatchOption result ((watchers_of self.old thing ≡ []) × (self.new ≡ self.old))
-            (λ t. (watchers_of self.old thing ≡ t ∷ watchers_of self.new thing) × (t < self.old.size)) }
+        ensures task { MatchOption result
+            ((watchers_of self.old thing ≡ []) × (self.new ≡ self.old))
+            (λ t. (watchers_of self.old thing ≡ t ∷ watchers_of self.new thing)
+            × (t < self.old.size)) }
         ensures lists { self.new ≡ watched self.old thing (watchers_of self.new thing) }
     {
         self.watchers.take(thing)

@@ -1,5 +1,6 @@
 //! The history, and the state that it leaves.
-ghost use Rattle.std.specs.Prelude.{◌≡◌, ◌<◌, ◌≤◌, ◌∷◌, ◌++◌, [], length, set, slice_index_or, vec_len, vec_capacity};
+ghost use Rattle.std.specs.Prelude.{◌≡◌, ◌<◌, ◌≤◌, ◌∷◌, ◌++◌, [], length, set, slice_index_or};
+ghost use Rattle.std.specs.Prelude.{vec_len, vec_capacity};
 ghost use Rattle.cu_table.specs.Machine.{no_task, one_copy_more, without, copy_of};
 
 use crate::state::{Ending, RunningCopy, TaskState};
@@ -59,7 +60,9 @@ impl Records {
         requires history { vec_len self.old.history < vec_capacity self.old.history }
         requires copies { vec_len self.old.copies < vec_capacity self.old.copies }
         ensures history { self.new.history.items ≡ self.old.history.items ++ entry ∷ [] }
-        ensures tasks { self.new.tasks.items ≡ set self.old.tasks.items number (one_copy_more (slice_index_or self.old.tasks.items number no_task)) }
+        ensures tasks { self.new.tasks.items
+            ≡ set self.old.tasks.items number
+            (one_copy_more (slice_index_or self.old.tasks.items number no_task)) }
         ensures copies { self.new.copies.items ≡ self.old.copies.items ++ copy_of entry ∷ [] }
         ensures ended { self.new.ended ≡ self.old.ended }
         ensures room { vec_capacity self.old.history ≤ vec_capacity self.new.history }

@@ -31,27 +31,35 @@ fn is_view(op: &Op) -> bool
 
 /// Of a stored array that a region needs, by its place among those that are read for it.
 fn stored_source(task: &PlanTask, place: usize, undone: &[usize]) -> Sources
-    requires place { place < length (input_walks task.now.plan.arrays (task_op task.now) task.now.number) }
+    requires place { place
+        < length (input_walks task.now.plan.arrays (task_op task.now) task.now.number) }
     requires stored { is_inlined task.now.plan.arrays (walk_at task.now place).array ≡ false }
     requires counts { length undone.now ≡ length task.now.plan.ops }
-    ensures { TellsOf task.now undone.now (walk_cells task.now.plan.arrays (walk_at task.now place)) result }
+    ensures { TellsOf task.now undone.now
+        (walk_cells task.now.plan.arrays (walk_at task.now place)) result }
 {
-    if let Some(source) = task.array(task.input_walks()[place].array).maker {
+    let walk = &task.input_walks()[place];
+    let array = task.array(walk.array);
+    if let Some(source) = array.maker {
         if undone[source as usize] != 0 {
-            return if is_view(task.operation()) {
-                Sources::Awaited(source)
-            } else {
-                Sources::Partial
-            };
+            if is_view(task.operation()) {
+                return Sources::Awaited(source);
+            }
+            // an empty region has no chunk
+            if array.layout.grid.cover(&walk.region).next().is_some() {
+                return Sources::Partial;
+            }
         }
     }
     Sources::Complete
 }
 
-/// Of all that a region needs. What stands inside it is asked too, since there a view needs whole arrays as well.
+/// Of all that a region needs. What stands inside it is asked too, since there a view needs whole
+/// arrays as well.
 pub(crate) fn sources_of(task: &PlanTask, undone: &[usize]) -> Sources
     requires { length undone.now ≡ length task.now.plan.ops }
-    ensures { TellsOf task.now undone.now (fetched_chunks task.now.plan task.now.op task.now.number) result }
+    ensures { TellsOf task.now undone.now
+        (fetched_chunks task.now.plan task.now.op task.now.number) result }
 {
     let mut found = Sources::Complete;
     for place in 0..task.input_walks().len() {

@@ -4,7 +4,8 @@ ghost use Rattle.cu_op.specs.Sound.{Sound};
 ghost use Rattle.cu_table.specs.Numbers.{task_count};
 ghost use Rattle.cu_table.specs.Machine.{RunsNothing, Runs, opening};
 ghost use Rattle.cu_table.specs.Step.{Replays};
-ghost use Rattle.cu_table.specs.Table.{TableView, IsClaim, IsIdle, claim_of, IsReported, end_of, report_kind, is_late};
+ghost use Rattle.cu_table.specs.Table.{TableView, IsClaim, IsIdle, claim_of, IsReported, end_of};
+ghost use Rattle.cu_table.specs.Table.{report_kind, is_late};
 
 use crate::claim::Claim;
 use crate::end::end_copy;
@@ -44,16 +45,25 @@ impl Model for Table {
       settings = record { plan = t.tasks; retries = t.retries; backups = t.backups };
       done = t.done.items;
       history = t.records.history.items;
-      state = record { tasks = t.records.tasks.items; copies = t.records.copies.items; ended = t.records.ended };
+      state = record {
+        tasks = t.records.tasks.items;
+        copies = t.records.copies.items;
+        ended = t.records.ended;
+      };
     } };
 
     ghost invariant = { λ t. IsTable (record {
       settings = record { plan = t.tasks; retries = t.retries; backups = t.backups };
       done = t.done.items;
       history = t.records.history.items;
-      state = record { tasks = t.records.tasks.items; copies = t.records.copies.items; ended = t.records.ended };
+      state = record {
+        tasks = t.records.tasks.items;
+        copies = t.records.copies.items;
+        ended = t.records.ended;
+      };
     }) t.undone t.queue
-        × HasRoom t.tasks t.retries (vec_capacity t.records.history) (vec_capacity t.records.copies) };
+        × HasRoom t.tasks t.retries (vec_capacity t.records.history)
+        (vec_capacity t.records.copies) };
 }
 
 /// What a claim answers once the machine has ended.
@@ -67,9 +77,10 @@ fn ended_claim(ending: Ending) -> Claim
 }
 
 impl Table {
-    /// A table for a plan, of which these tasks are done, those of all operations in order. A task that the store fails is tried again
-    /// `retries` times. With `backups` an idle worker may run a second copy of a task that runs. All memory is taken here: room for
-    /// `2 * (retries + 2)` entries a task. The plan is copied.
+    /// A table for a plan, of which these tasks are done, those of all operations in order. A task
+    /// that the store fails is tried again `retries` times. With `backups` an idle worker may run a
+    /// second copy of a task that runs. All memory is taken here: room for `2 * (retries + 2)`
+    /// entries a task. The plan is copied.
     pub fn begin(
         alloc: Global,
         plan: &Plan,
@@ -166,7 +177,9 @@ impl Table {
     /// Takes how the worker's copy of a task ended.
     pub fn report(&mut self, worker: u32, op: u32, task: u32, ended: Result<(), TaskFault>)
         requires { Runs self.old.state worker op task }
-        ensures reported { IsReported self.old (end_of (report_kind (is_late self.old.settings.plan self.old.state op task) ended) worker op task) ended self.new }
+        ensures reported { IsReported self.old
+            (end_of (report_kind (is_late self.old.settings.plan self.old.state op task) ended)
+            worker op task) ended self.new }
         ensures legal { Replays self.new.settings self.new.done self.new.history self.new.state }
         ensures sound { Sound self.old.settings.plan }
     {

@@ -1,6 +1,7 @@
-//! Lists of tasks, one for each thing that tasks wait for. A task stands in one of them at most, so one array of numbers
-//! links them all, and no call but `make` takes memory.
-ghost use Rattle.std.specs.Prelude.{◌≡◌, ◌<◌, ◌≤◌, ◌∷◌, [], length, set, sum_by, All, IfOk, MatchOption, slice_index_or};
+//! Lists of tasks, one for each thing that tasks wait for. A task stands in one of them at most, so
+//! one array of numbers links them all, and no call but `make` takes memory.
+ghost use Rattle.std.specs.Prelude.{◌≡◌, ◌<◌, ◌≤◌, ◌∷◌, [], length, set, sum_by, All, IfOk};
+ghost use Rattle.std.specs.Prelude.{MatchOption, slice_index_or};
 ghost use Rattle.cu_table.specs.Queue.{Lists, times_in};
 
 use cu_store::NoMemory;
@@ -27,9 +28,13 @@ impl Model for Watchers {
 
     ghost Value = { Lists };
 
-    ghost view = { λ w. record { size = length w.nexts.items; lists = map (chain_of w.nexts.items) w.heads.items } };
+    ghost view = { λ w. record {
+      size = length w.nexts.items;
+      lists = map (chain_of w.nexts.items) w.heads.items;
+    } };
 
-    ghost invariant = { λ w. All (λ h. All (λ i. i < length w.nexts.items) (chain_of w.nexts.items h)) w.heads.items };
+    ghost invariant = { λ w. All
+        (λ h. All (λ i. i < length w.nexts.items) (chain_of w.nexts.items h)) w.heads.items };
 }
 
 impl Watchers {
@@ -55,7 +60,8 @@ impl Watchers {
         requires apart { sum_by (times_in task) self.old.lists ≡ 0 }
         requires few { length (slice_index_or self.old.lists thing []) ≤ 65536 }
         ensures size { self.new.size ≡ self.old.size }
-        ensures lists { self.new.lists ≡ set self.old.lists thing (task ∷ slice_index_or self.old.lists thing []) }
+        ensures lists { self.new.lists
+            ≡ set self.old.lists thing (task ∷ slice_index_or self.old.lists thing []) }
     {
         let head = self.heads[thing];
         self.nexts[task as usize] = head.first;
@@ -70,8 +76,10 @@ impl Watchers {
         requires { thing < length self.old.lists }
         ensures size { self.new.size ≡ self.old.size }
         ensures task { MatchOption result (slice_index_or self.old.lists thing [] ≡ [])
-            (λ t. slice_index_or self.old.lists thing [] ≡ t ∷ slice_index_or self.new.lists thing []) }
-        ensures lists { self.new.lists ≡ set self.old.lists thing (slice_index_or self.new.lists thing []) }
+            (λ t. slice_index_or self.old.lists thing []
+            ≡ t ∷ slice_index_or self.new.lists thing []) }
+        ensures lists { self.new.lists
+            ≡ set self.old.lists thing (slice_index_or self.new.lists thing []) }
         ensures within { MatchOption result (self.new ≡ self.old) (λ t. t < self.old.size) }
     {
         let head = self.heads[thing];

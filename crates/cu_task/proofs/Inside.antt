@@ -39,11 +39,11 @@ use Rattle.cu_store.specs.Steps.{Shown}
 use Rattle.cu_store.specs.declared.faults.TaskFault.{TaskFault}
 use Rattle.cu_store.specs.declared.faults.TaskFault.TheVariants.{BadChunk, NoMemory, Store}
 use Rattle.cu_task.proofs.TaskRegions.{written_in}
-use Rattle.cu_task.specs.Calls.{calls_by, chunk_calls, read_calls, MakesSureCalls, HasSureCalls}
+use Rattle.cu_task.specs.Calls.{calls_by, chunk_calls, chunk_tally, read_calls, read_tally, tally_by, MakesSureCalls, HasSureCalls}
 use Rattle.cu_task.specs.Inputs.{HasRegion, IsWalkFault, IsWalkKey}
 use Rattle.cu_task.specs.Task.{ops_inside, steps_within, work_room, HasResult, IsComputing, IsTaskFault, IsTaskKey}
 use Rattle.cu_zarr.specs.Stored.{element_in}
-use Rattle.std.proofs.Common.{◌≡◌, ◌⊎◌, inl, inr, ℕ, zero, suc, ◌<◌, ◌≤◌, ◌+◌, ◌*◌, ◌^◌, true, false, List, [], ◌∷◌, ◌++◌, length, map, drop, All, Contains, Option, Some, None, get_or, refl, ap, sym, ◌∙◌, subst, arith, if◌then◌else◌}
+use Rattle.std.proofs.Common.{◌≡◌, inl, inr, ℕ, zero, suc, ◌<◌, ◌≤◌, ◌+◌, ◌*◌, ◌^◌, true, false, List, [], ◌∷◌, length, map, drop, All, Contains, Option, Some, None, get_or, refl, ap, sym, ◌∙◌, subst, arith, if◌then◌else◌}
 use Rattle.std.proofs.lemmas.List.Elements.{All-contains, All-contains_itself}
 use Rattle.std.proofs.lemmas.List.Sums.{sum_by-append, sum_by-cons}
 use Rattle.std.specs.List.{flat_map}
@@ -84,7 +84,7 @@ sums_alike f g (c ∷ cs) h =
     let rest = sums_alike f g cs (λ d there. h d (suc there.0, (let l = there.1 in omega arith), there.2)) in
     sum_by-cons f c cs ∙ ap (λ (n : ℕ). n + sum_by f cs) own ∙ ap (λ (n : ℕ). g c + n) rest ∙ sym (sum_by-cons g c cs)
 
-ones : (f : Cell → ℕ) (cs : List Cell) → ((c : Cell) → Contains cs c → f c ≡ 1) → sum_by f cs ≡ length cs
+pub ones : (f : Cell → ℕ) (cs : List Cell) → ((c : Cell) → Contains cs c → f c ≡ 1) → sum_by f cs ≡ length cs
 ones f [] h = refl
 ones f (c ∷ cs) h =
     let own = h c (0, omega arith, refl) in
@@ -95,22 +95,29 @@ ones f (c ∷ cs) h =
 -- ---- calls
 
 -- they depend on what a chunk takes that is read
-pub calls_alike : (f g : Cell → ℕ) (arrays : List ArrayInfo) (op : Op) (task : ℕ)
+tally_alike : (weight f g : Cell → ℕ) (arrays : List ArrayInfo) (op : Op) (task : ℕ)
     → ((c : Cell) → Contains (cells_of_walks arrays (input_walks arrays op task)) c → f c ≡ g c)
-    → calls_by f arrays op task ≡ calls_by g arrays op task
-calls_alike f g arrays (Pull pull ins out) task h = refl
-calls_alike f g arrays op task h = sums_alike f g (cells_of_walks arrays (input_walks arrays op task)) h
+    → tally_by weight f arrays op task ≡ tally_by weight g arrays op task
+tally_alike weight f g arrays (Pull pull ins out) task h = refl
+tally_alike weight f g arrays op task h = sums_alike f g (cells_of_walks arrays (input_walks arrays op task)) h
 
 -- of an operation that computes from regions
+pub computed_tally : (weight f : Cell → ℕ) (arrays : List ArrayInfo) (op : Op) (task : ℕ) → IsComputing op
+    → tally_by weight f arrays op task ≡ sum_by f (cells_of_walks arrays (input_walks arrays op task))
+computed_tally weight f arrays (Pull pull ins out) task computing = absurd computing
+computed_tally weight f arrays op task computing = refl
+
 pub computed_calls : (f : Cell → ℕ) (arrays : List ArrayInfo) (op : Op) (task : ℕ) → IsComputing op
     → calls_by f arrays op task ≡ sum_by f (cells_of_walks arrays (input_walks arrays op task))
-computed_calls f arrays (Pull pull ins out) task computing = absurd computing
-computed_calls f arrays op task computing = refl
+computed_calls f arrays op task computing = computed_tally (λ c. 1) f arrays op task computing
 
--- a chunk of a stored array takes one
+-- a chunk of a stored array adds its weight, and takes one
+pub stored_weight : (weight : Cell → ℕ) (p : PlanView) (n : ℕ) (c : Cell) → is_inlined p.arrays c.array ≡ false → chunk_tally weight p n c ≡ weight c
+stored_weight weight p zero c f = refl
+stored_weight weight p (suc n) c f = rw f refl
+
 pub stored_chunk : (p : PlanView) (n : ℕ) (c : Cell) → is_inlined p.arrays c.array ≡ false → chunk_calls p n c ≡ 1
-stored_chunk p zero c f = refl
-stored_chunk p (suc n) c f = rw f refl
+stored_chunk p n c f = stored_weight (λ d. 1) p n c f
 
 -- ---- the room of an operation
 
@@ -244,73 +251,81 @@ module _ (p : PlanView) (s : Sound p) where
       let (w, listed, here) = one_walk p.arrays (input_walks p.arrays (op_of p k) task) c there in
       from_walk p.arrays (new_walks (input_walks p.arrays (op_of p k) task) []) w c (kept_walk (input_walks p.arrays (op_of p k) task) w listed) here
 
-  inner_chunk : (n : ℕ) (c : Cell) (i : Inner p s (suc n) c) → is_inlined p.arrays c.array ≡ true
-      → chunk_calls p (suc n) c ≡ calls_by (chunk_calls p n) p.arrays (op_of p i.maker) (task_at p.arrays (op_of p i.maker) c)
-  inner_chunk n c i t =
-      let own : chunk_calls p (suc n) c ≡ calls_by (chunk_calls p n) p.arrays (maker_op p c.array) (task_at p.arrays (maker_op p c.array) c) = rw t refl in
-      own ∙ ap (λ (op : Op). calls_by (chunk_calls p n) p.arrays op (task_at p.arrays op c)) i.op
+  module _ (weight : Cell → ℕ) where
+    inner_chunk : (n : ℕ) (c : Cell) (i : Inner p s (suc n) c) → is_inlined p.arrays c.array ≡ true
+        → chunk_tally weight p (suc n) c ≡ tally_by weight (chunk_tally weight p n) p.arrays (op_of p i.maker) (task_at p.arrays (op_of p i.maker) c)
+    inner_chunk n c i t =
+        let own : chunk_tally weight p (suc n) c ≡ tally_by weight (chunk_tally weight p n) p.arrays (maker_op p c.array) (task_at p.arrays (maker_op p c.array) c) = rw t refl in
+        own ∙ ap (λ (op : Op). tally_by weight (chunk_tally weight p n) p.arrays op (task_at p.arrays op c)) i.op
 
-  -- one depth is as good as another
-  same_calls : (n m : ℕ) (c : Cell) → IsChunk p.arrays c → IsReadable p.arrays n c.array → IsReadable p.arrays m c.array
-      → chunk_calls p n c ≡ chunk_calls p m c
-  same_calls zero zero c here a b = refl
-  same_calls zero (suc m) c here a b = sym (stored_chunk p (suc m) c (first_stored p s c.array a))
-  same_calls (suc n) zero c here a b = stored_chunk p (suc n) c (first_stored p s c.array b)
-  same_calls (suc n) (suc m) c here a b =
-      elim (bool_cases (is_inlined p.arrays c.array)) [
-        | inr f ↦ stored_chunk p (suc n) c f ∙ sym (stored_chunk p (suc m) c f)
-        | inl t ↦
-            let i = inner_of p s (suc n) c here a t in
-            let before = maker_before p s (maker_at p.arrays c.array) (suc m) i.maker b.1 i.made in
-            let o : Inner p s (suc m) c = record { maker = i.maker; made = i.made; before = before; op = i.op; makes = i.makes } in
-            let r = task_at p.arrays (op_of p i.maker) c in
-            let l = i.before in
-            inner_chunk n c i t
-            ∙ calls_alike (chunk_calls p n) (chunk_calls p m) p.arrays (op_of p i.maker) r (λ d there.
-            let listed = walk_read i.maker r d there in
-            let x = read_before p s i.maker r d n i.makes.operation i.makes.number (omega (arith, l)) listed in
-            let y = read_before p s i.maker r d m i.makes.operation i.makes.number (omega (arith, before)) listed in
-            same_calls n m d x.0 x.1 y.1)
-            ∙ sym (inner_chunk m c o t)
-      ]
+    -- one depth is as good as another
+    same_tally : (n m : ℕ) (c : Cell) → IsChunk p.arrays c → IsReadable p.arrays n c.array → IsReadable p.arrays m c.array
+        → chunk_tally weight p n c ≡ chunk_tally weight p m c
+    same_tally zero zero c here a b = refl
+    same_tally zero (suc m) c here a b = sym (stored_weight weight p (suc m) c (first_stored p s c.array a))
+    same_tally (suc n) zero c here a b = stored_weight weight p (suc n) c (first_stored p s c.array b)
+    same_tally (suc n) (suc m) c here a b =
+        elim (bool_cases (is_inlined p.arrays c.array)) [
+          | inr f ↦ stored_weight weight p (suc n) c f ∙ sym (stored_weight weight p (suc m) c f)
+          | inl t ↦
+              let i = inner_of p s (suc n) c here a t in
+              let before = maker_before p s (maker_at p.arrays c.array) (suc m) i.maker b.1 i.made in
+              let o : Inner p s (suc m) c = record { maker = i.maker; made = i.made; before = before; op = i.op; makes = i.makes } in
+              let r = task_at p.arrays (op_of p i.maker) c in
+              let l = i.before in
+              inner_chunk n c i t
+              ∙ tally_alike weight (chunk_tally weight p n) (chunk_tally weight p m) p.arrays (op_of p i.maker) r (λ d there.
+              let listed = walk_read i.maker r d there in
+              let x = read_before p s i.maker r d n i.makes.operation i.makes.number (omega (arith, l)) listed in
+              let y = read_before p s i.maker r d m i.makes.operation i.makes.number (omega (arith, before)) listed in
+              same_tally n m d x.0 x.1 y.1)
+              ∙ sym (inner_chunk m c o t)
+        ]
 
-  -- for a region of a stored array, or one that has no chunk
+    -- for a region of a stored array, or one that has no chunk
+    pub stored_tally : (k : ℕ) (w : Walk) → IsReadAsIs p.arrays w → sum_by (chunk_tally weight p k) (walk_cells p.arrays w) ≡ sum_by weight (walk_cells p.arrays w)
+    stored_tally k w (inr none) = ap (sum_by (chunk_tally weight p k)) none ∙ sym (ap (sum_by weight) none)
+    stored_tally k w (inl f) =
+        sums_alike (chunk_tally weight p k) weight (walk_cells p.arrays w) (λ c there. stored_weight weight p k c (subst (λ (a : ℕ). is_inlined p.arrays a ≡ false) (sym (of_walk c there)) f))
+      where
+        of_walk : (c : Cell) → Contains (walk_cells p.arrays w) c → c.array ≡ w.array
+        of_walk c there = each _ c there
+          where
+            each : (coords : List (List ℕ)) (c : Cell) → Contains (map (cell w.array) coords) c → c.array ≡ w.array
+            each [] c (k, l, e) = absurd (omega arith)
+            each (x ∷ xs) c (zero, l, e) = ap (λ (d : Cell). d.array) (sym e)
+            each (x ∷ xs) c (suc k, l, e) = each xs c (k, omega arith, e)
+
+    -- for one that is made where it is read
+    pub inner_tally : (k : ℕ) (w : Walk) (j region : ℕ) → IsReadable p.arrays k w.array → is_inlined p.arrays w.array ≡ true → IsInnerRegion p w j region
+        → sum_by (chunk_tally weight p k) (walk_cells p.arrays w) ≡ read_tally weight p j region
+    inner_tally k w j region readable t i =
+        let c = cell w.array (task_coord p.arrays (op_of p j) region) in
+        let here = (made_cell p s j region w.array c.coord i.makes).2 in
+        let e = region_number p s j region w.array c.coord i.makes in
+        let o : Inner p s (suc j) c = record {
+          maker = j;
+          made = i.maker;
+          before = omega arith;
+          op = ap (made_by p) i.maker;
+          makes = subst (λ (r : ℕ). MakesChunk p j r w.array c.coord) e i.makes;
+        } in
+        let one : sum_by (chunk_tally weight p k) (c ∷ []) ≡ chunk_tally weight p k c = (let n = sum_by-cons (chunk_tally weight p k) c [] in omega (arith, n)) in
+        ap (sum_by (chunk_tally weight p k)) i.cells ∙ one
+        ∙ same_tally k (suc j) c here readable (readable.0, later (maker_at p.arrays w.array) j i.maker)
+        ∙ inner_chunk j c o t
+        ∙ ap (tally_by weight (chunk_tally weight p j) p.arrays (op_of p j)) (sym e)
+      where
+        later : (m : Option ℕ) (j : ℕ) → m ≡ Some j → IsBefore m (suc j)
+        later None j e = tt
+        later (Some n) j e = let same : n ≡ j = cc in omega (arith, same)
+
   pub stored_calls : (k : ℕ) (w : Walk) → IsReadAsIs p.arrays w → sum_by (chunk_calls p k) (walk_cells p.arrays w) ≡ length (walk_cells p.arrays w)
-  stored_calls k w (inr none) = ap (sum_by (chunk_calls p k)) none ∙ sym (ap length none)
-  stored_calls k w (inl f) =
-      ones (chunk_calls p k) (walk_cells p.arrays w) (λ c there. stored_chunk p k c (subst (λ (a : ℕ). is_inlined p.arrays a ≡ false) (sym (of_walk c there)) f))
-    where
-      of_walk : (c : Cell) → Contains (walk_cells p.arrays w) c → c.array ≡ w.array
-      of_walk c there = each _ c there
-        where
-          each : (coords : List (List ℕ)) (c : Cell) → Contains (map (cell w.array) coords) c → c.array ≡ w.array
-          each [] c (k, l, e) = absurd (omega arith)
-          each (x ∷ xs) c (zero, l, e) = ap (λ (d : Cell). d.array) (sym e)
-          each (x ∷ xs) c (suc k, l, e) = each xs c (k, omega arith, e)
+  stored_calls k w as_is = stored_tally (λ c. 1) k w as_is ∙ ones (λ c. 1) (walk_cells p.arrays w) (λ c there. refl)
 
-  -- for one that is made where it is read
   pub inner_calls : (k : ℕ) (w : Walk) (j region : ℕ) → IsReadable p.arrays k w.array → is_inlined p.arrays w.array ≡ true → IsInnerRegion p w j region
       → sum_by (chunk_calls p k) (walk_cells p.arrays w) ≡ read_calls p j region
-  inner_calls k w j region readable t i =
-      let c = cell w.array (task_coord p.arrays (op_of p j) region) in
-      let here = (made_cell p s j region w.array c.coord i.makes).2 in
-      let e = region_number p s j region w.array c.coord i.makes in
-      let o : Inner p s (suc j) c = record {
-        maker = j;
-        made = i.maker;
-        before = omega arith;
-        op = ap (made_by p) i.maker;
-        makes = subst (λ (r : ℕ). MakesChunk p j r w.array c.coord) e i.makes;
-      } in
-      let one : sum_by (chunk_calls p k) (c ∷ []) ≡ chunk_calls p k c = (let n = sum_by-cons (chunk_calls p k) c [] in omega (arith, n)) in
-      ap (sum_by (chunk_calls p k)) i.cells ∙ one
-      ∙ same_calls k (suc j) c here readable (readable.0, later (maker_at p.arrays w.array) j i.maker)
-      ∙ inner_chunk j c o t
-      ∙ ap (calls_by (chunk_calls p j) p.arrays (op_of p j)) (sym e)
-    where
-      later : (m : Option ℕ) (j : ℕ) → m ≡ Some j → IsBefore m (suc j)
-      later None j e = tt
-      later (Some n) j e = let same : n ≡ j = cc in omega (arith, same)
+  inner_calls k w j region readable t i = inner_tally (λ c. 1) k w j region readable t i
 
   -- ---- keys and faults
 

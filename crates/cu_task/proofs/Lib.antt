@@ -2,6 +2,7 @@ pub mod Allowed
 pub mod ChunkRegions
 pub mod CopyTask
 pub mod Counting
+mod Examples
 pub mod InputReads
 pub mod Inside
 pub mod JobViews
@@ -12,6 +13,7 @@ pub mod MapTask
 pub mod MatrixBlocks
 pub mod MatrixTask
 pub mod OwnRegions
+pub mod PartialFolds
 pub mod PartialRegions
 pub mod PartialTasks
 pub mod PartialValues
@@ -22,6 +24,8 @@ pub mod ScanTask
 pub mod SearchTask
 pub mod Serving
 pub mod Standing
+pub mod StripBytes
+pub mod StripTask
 pub mod SumTasks
 pub mod TaskKinds
 pub mod TaskRegions

@@ -12,11 +12,12 @@ use Rattle.cu_op.specs.Elements.{Elements}
 use Rattle.cu_op.specs.Value.{stored_inputs}
 use Rattle.cu_op.specs.Walks.{cells_of_walks, input_walks, walk_cells, written_chunks}
 use Rattle.cu_op.specs.Within.{with_inlined}
+use Rattle.cu_op.specs.declared.cells.Cell.{Cell}
 use Rattle.cu_op.specs.declared.walks.Walk.{Walk}
 use Rattle.cu_region.specs.Writing.{AreElements}
 use Rattle.cu_task.specs.Asks.{MayReadTask, MayReadWritten}
 use Rattle.cu_task.specs.Inputs.{room_of_walks, HasRegion}
-use Rattle.cu_task.specs.Calls.{chunk_calls, read_calls, HasSureCalls}
+use Rattle.cu_task.specs.Calls.{chunk_calls, chunk_tally, read_calls, read_tally, tally_of, weight_in, written_tally, HasSureCalls}
 use Rattle.cu_task.specs.Task.{IsTaskReady, TaskChange, HoldsCells, IsTaskKey, StillHolds, steps_within, work_room, kept_room, result_room, found_room, HasResult, IsComputed, AreSteadyInputs, IsResultOver, IsTaskFault}
 
 -- the bytes through which it reads and writes chunks; those with what stands inside it; of the regions that it reads; and of the elements that it makes
@@ -63,6 +64,29 @@ calls_for_walks t walks = sum_by (chunk_calls t.plan t.op) (cells_of_walks t.pla
 
 abbrev pub calls_to_write : TaskView → ℕ
 calls_to_write t = length (written_chunks t.plan.arrays (task_op t) t.number)
+
+-- what these calls add to a tally, where each key has a weight
+abbrev pub cell_weight : (List ℕ → ℕ) → TaskView → Cell → ℕ
+cell_weight weight t c = weight_in weight t.plan.arrays c
+
+abbrev pub tally_to_read : (List ℕ → ℕ) → TaskView → ℕ
+tally_to_read weight t = read_tally (cell_weight weight t) t.plan t.op t.number
+
+abbrev pub tally_for_walk : (List ℕ → ℕ) → TaskView → Walk → ℕ
+tally_for_walk weight t w = sum_by (chunk_tally (cell_weight weight t) t.plan t.op) (walk_cells t.plan.arrays w)
+
+abbrev pub tally_for_walks : (List ℕ → ℕ) → TaskView → List Walk → ℕ
+tally_for_walks weight t walks = sum_by (chunk_tally (cell_weight weight t) t.plan t.op) (cells_of_walks t.plan.arrays walks)
+
+abbrev pub tally_to_write : (List ℕ → ℕ) → TaskView → ℕ
+tally_to_write weight t = written_tally (cell_weight weight t) t.plan t.op t.number
+
+abbrev pub tally_of_task : (List ℕ → ℕ) → TaskView → ℕ
+tally_of_task weight t = tally_of weight t.plan t.op t.number
+
+-- what the chunks of a walk add that are stored
+abbrev pub weight_of_walk : (List ℕ → ℕ) → TaskView → Walk → ℕ
+weight_of_walk weight t w = sum_by (cell_weight weight t) (walk_cells t.plan.arrays w)
 
 -- it may ask for what it reads, and for what it makes
 abbrev pub MayRead : TaskView → (List ℕ → Type 0) → Type 0

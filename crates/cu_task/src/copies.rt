@@ -1,11 +1,11 @@
 //! Tasks of copies.
 ghost use Rattle.std.specs.Prelude.{◌≡◌, ◌≤◌, length, IfErr, OnOk};
 ghost use Rattle.cu_store.specs.Held.{Contents};
-ghost use Rattle.cu_store.specs.Chunks.{StaysOpen};
+ghost use Rattle.cu_store.specs.Chunks.{Adds, StaysOpen};
 ghost use Rattle.cu_store.specs.Steps.{NoChange, Steps};
 ghost use Rattle.cu_op.specs.TaskView.{task_op};
 ghost use Rattle.cu_region.specs.Calls.{Made};
-ghost use Rattle.cu_task.specs.OfTask.{scratch_bytes, made_bytes, calls_to_read, MayRead, AreSteady, HasMade, AreOfItsType, IsOwnFault, stored_elements};
+ghost use Rattle.cu_task.specs.OfTask.{scratch_bytes, made_bytes, calls_to_read, tally_to_read, MayRead, AreSteady, HasMade, AreOfItsType, IsOwnFault, stored_elements};
 ghost use Rattle.cu_task.specs.Task.{IsCopy};
 
 use crate::inputs::{input_walk, read_walk};
@@ -34,6 +34,8 @@ pub(crate) fn copy_region<C: Chunks>(
         (C.shown access.new) }
     ensures all { OnOk result (Made (calls_to_read task.now) (C.shown access.old).calls
         (C.shown access.new).calls) }
+    ensures called { OnOk result (Adds (tally_to_read (C.weight store.now) task.now)
+        (C.tally access.old) (C.tally access.new)) }
     ensures cause { IfErr result (IsOwnFault task.now (C.shown access.old) (C.shown access.new)) }
 {
     let walk = input_walk(task, 0);

@@ -5,7 +5,6 @@ ghost use Rattle.cu_op.specs.TaskView.{walk_at, IsReadAsIs};
 ghost use Rattle.cu_task.specs.Inside.{StandsInside};
 ghost use Rattle.cu_task.specs.OfTask.{walks_from};
 
-use crate::inputs::input_walk;
 use cu_op::PlanTask;
 
 /// What makes the region that a task reads at a place; none where that is read as it is stored, or
@@ -16,10 +15,5 @@ pub(crate) fn inner_task<'a>(task: &PlanTask<'a>, place: usize) -> Option<PlanTa
     ensures none { result ≡ None → IsReadAsIs task.now.plan.arrays (walk_at task.now place) }
     ensures sound { Sound task.now.plan }
 {
-    let walk = input_walk(task, place);
-    if task.array(walk.array).inlined {
-        task.inner(place)
-    } else {
-        None
-    }
+    task.inner(place)
 }

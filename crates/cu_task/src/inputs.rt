@@ -3,7 +3,7 @@ ghost use Rattle.std.specs.Prelude.{◌≡◌, ◌*◌, ◌<◌, ◌≤◌, ◌^
 ghost use Rattle.cu_num.specs.Dtype.{size_of};
 ghost use Rattle.cu_shape.specs.Index.{product, differences};
 ghost use Rattle.cu_store.specs.Held.{Contents};
-ghost use Rattle.cu_store.specs.Chunks.{StaysOpen};
+ghost use Rattle.cu_store.specs.Chunks.{Adds, StaysOpen};
 ghost use Rattle.cu_task.specs.Asks.{MayReadWalk};
 ghost use Rattle.cu_store.specs.Steps.{NoChange, Steps};
 ghost use Rattle.cu_op.specs.Arrays.{array_at, type_at, chunk_room};
@@ -14,7 +14,7 @@ ghost use Rattle.cu_region.specs.Reading.{ReadsRegion};
 ghost use Rattle.cu_region.specs.Calls.{Made};
 ghost use Rattle.cu_region.specs.Writing.{AreElements};
 ghost use Rattle.cu_task.specs.Inputs.{walk_room, room_of_walks, lays_from, IsWalkKey, IsWalkFault};
-ghost use Rattle.cu_task.specs.OfTask.{read_bytes};
+ghost use Rattle.cu_task.specs.OfTask.{read_bytes, weight_of_walk};
 ghost use Rattle.cu_task.specs.Task.{StillHolds};
 
 use arrayvec::ArrayVec;
@@ -52,6 +52,8 @@ pub(crate) fn read_walk<C: Chunks>(
         (C.shown access.old) (C.shown access.new) }
     ensures all { OnOk result (Made (length (walk_cells task.now.plan.arrays walk.now))
         (C.shown access.old).calls (C.shown access.new).calls) }
+    ensures called { OnOk result (Adds (weight_of_walk (C.weight store.now) task.now walk.now)
+        (C.tally access.old) (C.tally access.new)) }
     ensures cause { IfErr result (IsWalkFault (C.shown access.old) (C.shown access.new)
         task.now.plan.arrays walk.now) }
 {

@@ -2,15 +2,17 @@
 //! array's region is made there too, by the operation that makes it.
 ghost use Rattle.std.specs.Prelude.{◌≡◌, ◌+◌, ◌<◌, ◌≤◌, ◌^◌, length, IfErr, OnOk};
 ghost use Rattle.cu_store.specs.Held.{Contents};
-ghost use Rattle.cu_store.specs.Chunks.{StaysOpen};
+ghost use Rattle.cu_store.specs.Chunks.{Adds, StaysOpen};
 ghost use Rattle.cu_store.specs.Steps.{NoChange, Steps};
 ghost use Rattle.cu_op.specs.TaskView.{task_op, walk_at};
 ghost use Rattle.cu_region.specs.Calls.{Made};
 ghost use Rattle.cu_task.specs.Inputs.{walk_room, room_of_walks, HasRegions};
 ghost use Rattle.cu_task.specs.OfTask.{calls_for_walk, calls_for_walks, calls_to_read};
+ghost use Rattle.cu_task.specs.OfTask.{tally_for_walk, tally_for_walks, tally_to_read};
 ghost use Rattle.cu_task.specs.OfTask.{found_bytes, kept_bytes, kernel_words, made_bytes};
 ghost use Rattle.cu_task.specs.OfTask.{held_inputs, walks_from, work_bytes, HasMade, HasWalk};
 ghost use Rattle.cu_task.specs.OfTask.{HoldsFor, IsOwnFault, IsSure, MayRead};
+ghost use Rattle.cu_task.specs.Strips.{FoldsMap};
 ghost use Rattle.cu_task.specs.Task.{IsComputing};
 ghost use Rattle.cu_task.specs.TaskRoom.{IsRoomOf, HasMadeAll, AreAllOfTheirTypes};
 
@@ -20,6 +22,7 @@ use crate::inner::inner_task;
 use crate::inputs::{input_walk, read_walk, walk_bytes};
 use crate::pulls::pull_result;
 use crate::room::{TaskRoom, kept_bytes};
+use crate::strips::{fold_map, folded_map};
 use crate::views::{ViewJob, shapes_of};
 use cu_op::{Op, PlanTask};
 use cu_store::{Chunks, TaskFault};
@@ -47,6 +50,8 @@ pub(crate) fn make_result<C: Chunks>(
         (C.shown access.new) }
     ensures all { IsSure task.now → OnOk result (Made (calls_to_read task.now)
         (C.shown access.old).calls (C.shown access.new).calls) }
+    ensures called { IsSure task.now → OnOk result (Adds (tally_to_read (C.weight store.now) task.now)
+        (C.tally access.old) (C.tally access.new)) }
     ensures cause { IfErr result (IsOwnFault task.now (C.shown access.old) (C.shown access.new)) }
 {
     match task.operation() {
@@ -68,7 +73,10 @@ pub(crate) fn make_result<C: Chunks>(
             let scratch = &mut *room.scratch;
             copy_region::<C>(store, access, task, output, scratch)
         }
-        _ => compute_result::<C>(store, access, task, room),
+        _ => match folded_map(task) {
+            Some(map) => fold_by_strips::<C>(store, access, task, &map, room),
+            None => compute_result::<C>(store, access, task, room),
+        },
     }
 }
 
@@ -95,6 +103,8 @@ fn compute_result<C: Chunks>(
         (C.shown access.new) }
     ensures all { IsSure task.now → OnOk result (Made (calls_to_read task.now)
         (C.shown access.old).calls (C.shown access.new).calls) }
+    ensures called { IsSure task.now → OnOk result (Adds (tally_to_read (C.weight store.now) task.now)
+        (C.tally access.old) (C.tally access.new)) }
     ensures cause { IfErr result (IsOwnFault task.now (C.shown access.old) (C.shown access.new)) }
 {
     let inputs = &mut *room.inputs;
@@ -105,6 +115,46 @@ fn compute_result<C: Chunks>(
     let output = &mut *room.output;
     let words = &mut *room.words;
     compute(task, inputs, values, output, words);
+    Ok(())
+}
+
+/// The same of a fold that a map makes the input of where it is read. The regions that the map reads
+/// stand in front of the scratch. What it makes of them is folded strip by strip.
+#[cycle(make)]
+fn fold_by_strips<C: Chunks>(
+    store: &C::Store,
+    access: &mut C::Access,
+    task: &PlanTask<'_>,
+    map: &PlanTask<'_>,
+    room: &mut TaskRoom<'_>,
+) -> Result<(), TaskFault>
+    requires belongs { C.belongs store.now access.old }
+    requires may { MayRead task.now (C.may_get store.now access.old) }
+    requires map { FoldsMap task.now map.now }
+    requires room { IsRoomOf task.now room.old }
+    ensures open { StaysOpen (C.belongs store.now access.new) (C.may_get store.now access.old)
+        (C.may_get store.now access.new) }
+    ensures room { IsRoomOf task.now room.new }
+    ensures same_reference { room.new.output.ghost_name ≡ room.old.output.ghost_name }
+    ensures made { (held : Contents) → HoldsFor task.now held (C.shown access.old)
+        → OnOk result (HasMadeAll task.now (held_inputs task.now held) room.new) }
+    ensures elements { OnOk result (AreAllOfTheirTypes task.now room.new) }
+    ensures step { Steps NoChange 0 (calls_to_read task.now) (C.shown access.old)
+        (C.shown access.new) }
+    ensures all { IsSure task.now → OnOk result (Made (calls_to_read task.now)
+        (C.shown access.old).calls (C.shown access.new).calls) }
+    ensures called { IsSure task.now → OnOk result (Adds (tally_to_read (C.weight store.now) task.now)
+        (C.tally access.old) (C.tally access.new)) }
+    ensures cause { IfErr result (IsOwnFault task.now (C.shown access.old) (C.shown access.new)) }
+{
+    let scratch = &mut *room.scratch;
+    let (inputs, scratch) = scratch.split_at_mut(kept_bytes(map));
+    let words = &mut *room.words;
+    read_inputs::<C>(store, access, map, 0, inputs, scratch, words)?;
+    let strip = &mut *room.inputs;
+    let output = &mut *room.output;
+    let words = &mut *room.words;
+    fold_map(task, map, inputs, strip, output, words);
     Ok(())
 }
 
@@ -137,6 +187,9 @@ fn read_inputs<C: Chunks>(
     ensures all { IsSure task.now
         → OnOk result (Made (calls_for_walks task.now (walks_from task.now place))
         (C.shown access.old).calls (C.shown access.new).calls) }
+    ensures called { IsSure task.now → OnOk result
+        (Adds (tally_for_walks (C.weight store.now) task.now (walks_from task.now place))
+        (C.tally access.old) (C.tally access.new)) }
     ensures cause { IfErr result (IsOwnFault task.now (C.shown access.old) (C.shown access.new)) }
 {
     if place == task.input_walks().len() {
@@ -175,6 +228,9 @@ fn read_input<C: Chunks>(
     ensures all { IsSure task.now
         → OnOk result (Made (calls_for_walk task.now (walk_at task.now place))
         (C.shown access.old).calls (C.shown access.new).calls) }
+    ensures called { IsSure task.now → OnOk result
+        (Adds (tally_for_walk (C.weight store.now) task.now (walk_at task.now place))
+        (C.tally access.old) (C.tally access.new)) }
     ensures cause { IfErr result (IsOwnFault task.now (C.shown access.old) (C.shown access.new)) }
 {
     match inner_task(task, place) {
@@ -212,6 +268,8 @@ fn make_inner<C: Chunks>(
         (C.shown access.new) }
     ensures all { IsSure task.now → OnOk result (Made (calls_to_read task.now)
         (C.shown access.old).calls (C.shown access.new).calls) }
+    ensures called { IsSure task.now → OnOk result (Adds (tally_to_read (C.weight store.now) task.now)
+        (C.tally access.old) (C.tally access.new)) }
     ensures cause { IfErr result (IsOwnFault task.now (C.shown access.old) (C.shown access.new)) }
 {
     let (inputs, rest) = scratch.split_at_mut(kept_bytes(task));

@@ -1,11 +1,11 @@
 //! Tasks of views.
 ghost use Rattle.std.specs.Prelude.{◌≡◌, ◌≤◌, length, IfErr, OnOk};
 ghost use Rattle.cu_store.specs.Held.{Contents};
-ghost use Rattle.cu_store.specs.Chunks.{StaysOpen};
+ghost use Rattle.cu_store.specs.Chunks.{Adds, StaysOpen};
 ghost use Rattle.cu_store.specs.Steps.{NoChange, Steps};
 ghost use Rattle.cu_op.specs.TaskView.{task_op};
 ghost use Rattle.cu_region.specs.Calls.{Made};
-ghost use Rattle.cu_task.specs.OfTask.{scratch_bytes, made_bytes, calls_to_read, MayRead, AreSteady, HasMade, AreOfItsType, IsOwnFault, stored_elements};
+ghost use Rattle.cu_task.specs.OfTask.{scratch_bytes, made_bytes, calls_to_read, tally_to_read, MayRead, AreSteady, HasMade, AreOfItsType, IsOwnFault, stored_elements};
 ghost use Rattle.cu_task.specs.ViewJobs.{IsViewJob};
 ghost use Rattle.cu_task.specs.Calls.{MakesSureCalls};
 
@@ -36,6 +36,9 @@ pub(crate) fn pull_result<C: Chunks>(
     ensures all { MakesSureCalls (task_op job.now.task.now)
         → OnOk result (Made (calls_to_read job.now.task.now) (C.shown access.old).calls
         (C.shown access.new).calls) }
+    ensures called { MakesSureCalls (task_op job.now.task.now)
+        → OnOk result (Adds (tally_to_read (C.weight store.now) job.now.task.now)
+        (C.tally access.old) (C.tally access.new)) }
     ensures cause { IfErr result (IsOwnFault job.now.task.now (C.shown access.old)
         (C.shown access.new)) }
 {

@@ -1,6 +1,6 @@
 //! What a task has made: its rooms, and the chunks of its region.
 ghost use Rattle.std.specs.Prelude.{◌≡◌, ℕ, ◌<◌, ◌≤◌, [], ◌∷◌, Some, length, Contains, IfErr, OnOk};
-ghost use Rattle.cu_store.specs.Chunks.{StaysOpen};
+ghost use Rattle.cu_store.specs.Chunks.{Adds, StaysOpen};
 ghost use Rattle.cu_task.specs.Asks.{MayReadRegion, AllowsRegion, AllowsResult};
 ghost use Rattle.cu_store.specs.Steps.{Shown, Steps};
 ghost use Rattle.cu_op.specs.Arrays.{array_at, type_at};
@@ -13,7 +13,7 @@ ghost use Rattle.cu_op.specs.Chunks.{walk};
 ghost use Rattle.cu_op.specs.Walks.{walk_cells};
 ghost use Rattle.cu_region.specs.Calls.{Made};
 ghost use Rattle.cu_region.specs.Writing.{AreElements, LateIsOwn, RegionPut, StoresRegion, IsWriteFault};
-ghost use Rattle.cu_task.specs.OfTask.{found_bytes, calls_to_write, MayReadMade, IsReadyFor, HoldsMade, IsOwnTask, scratch_bytes, made_bytes, IsMadeOver, AreOfItsType, ChangeBy};
+ghost use Rattle.cu_task.specs.OfTask.{found_bytes, calls_to_write, tally_to_write, weight_of_walk, MayReadMade, IsReadyFor, HoldsMade, IsOwnTask, scratch_bytes, made_bytes, IsMadeOver, AreOfItsType, ChangeBy};
 ghost use Rattle.cu_task.specs.Task.{result_room};
 ghost use Rattle.cu_task.specs.TaskRoom.{IsRoomOf, IsAllMadeOver, AreAllOfTheirTypes, AllowsMade};
 
@@ -81,6 +81,10 @@ fn write_array<C: Chunks>(
         0 (length (walk_cells task.now.plan.arrays (walk array (task_lo task.now.plan.arrays (task_op task.now) task.now.number) (task_hi task.now.plan.arrays (task_op task.now) task.now.number)))) (C.shown access.old) (C.shown access.new) }
     ensures all { OnOk result (Made (length (walk_cells task.now.plan.arrays (walk array (task_lo task.now.plan.arrays (task_op task.now) task.now.number) (task_hi task.now.plan.arrays (task_op task.now) task.now.number))))
         (C.shown access.old).calls (C.shown access.new).calls) }
+    ensures called { OnOk result (Adds (weight_of_walk (C.weight store.now) task.now
+        (walk array (task_lo task.now.plan.arrays (task_op task.now) task.now.number)
+        (task_hi task.now.plan.arrays (task_op task.now) task.now.number)))
+        (C.tally access.old) (C.tally access.new)) }
     ensures cause { IfErr result (IsWriteFault (C.shown access.old).faults
         (C.shown access.new).faults (C.shown access.new).lacks) }
 {
@@ -116,6 +120,8 @@ fn write_only<C: Chunks>(
         → OnOk result (HoldsMade task.now env (C.shown access.new)) }
     ensures all { OnOk result (Made (calls_to_write task.now) (C.shown access.old).calls
         (C.shown access.new).calls) }
+    ensures called { OnOk result (Adds (tally_to_write (C.weight store.now) task.now)
+        (C.tally access.old) (C.tally access.new)) }
     ensures cause { IfErr result (IsWriteFault (C.shown access.old).faults
         (C.shown access.new).faults (C.shown access.new).lacks) }
 {
@@ -150,6 +156,8 @@ fn write_both<C: Chunks>(
         → OnOk result (HoldsMade task.now env (C.shown access.new)) }
     ensures all { OnOk result (Made (calls_to_write task.now) (C.shown access.old).calls
         (C.shown access.new).calls) }
+    ensures called { OnOk result (Adds (tally_to_write (C.weight store.now) task.now)
+        (C.tally access.old) (C.tally access.new)) }
     ensures cause { IfErr result (IsWriteFault (C.shown access.old).faults
         (C.shown access.new).faults (C.shown access.new).lacks) }
 {
@@ -186,6 +194,8 @@ pub(crate) fn write_results<C: Chunks>(
         → OnOk result (HoldsMade task.now env (C.shown access.new)) }
     ensures all { OnOk result (Made (calls_to_write task.now) (C.shown access.old).calls
         (C.shown access.new).calls) }
+    ensures called { OnOk result (Adds (tally_to_write (C.weight store.now) task.now)
+        (C.tally access.old) (C.tally access.new)) }
     ensures cause { IfErr result (IsWriteFault (C.shown access.old).faults
         (C.shown access.new).faults (C.shown access.new).lacks) }
 {

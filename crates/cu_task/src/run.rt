@@ -1,6 +1,6 @@
 //! Tasks that are run.
 ghost use Rattle.std.specs.Prelude.{◌≡◌, ℕ, ◌+◌, ◌*◌, ◌<◌, length, IfErr, OnOk};
-ghost use Rattle.cu_store.specs.Chunks.{Allows, StaysOpen};
+ghost use Rattle.cu_store.specs.Chunks.{Adds, Allows, StaysOpen};
 ghost use Rattle.cu_store.specs.Steps.{Steps};
 ghost use Rattle.cu_op.specs.Cells.{tasks_of};
 ghost use Rattle.cu_op.specs.Elements.{Elements};
@@ -8,8 +8,8 @@ ghost use Rattle.cu_op.specs.Projection.{projection};
 ghost use Rattle.cu_op.specs.Schedule.{op_of};
 ghost use Rattle.cu_region.specs.Calls.{Made};
 ghost use Rattle.cu_task.specs.Asks.{MayReadTask, MayReadWritten};
-ghost use Rattle.cu_task.specs.Calls.{calls_of, HasSureCalls};
-ghost use Rattle.cu_task.specs.OfTask.{calls_to_read, calls_to_write, kernel_words};
+ghost use Rattle.cu_task.specs.Calls.{calls_of, tally_of, HasSureCalls};
+ghost use Rattle.cu_task.specs.OfTask.{calls_to_read, calls_to_write, kernel_words, tally_of_task};
 ghost use Rattle.cu_task.specs.OfTask.{ChangeBy, HoldsMade, IsOwnFault, IsOwnTask, IsReadyFor};
 ghost use Rattle.cu_task.specs.OfTask.{IsSure, MayRead, MayReadMade};
 ghost use Rattle.cu_task.specs.Task.{steps_within, HoldsCells, IsTaskFault};
@@ -35,6 +35,9 @@ use cu_store::{Chunks, TaskFault};
 /// that is made where it is read they are the calls by which it is made. Of a view the chunks of its sources are counted from which
 /// an element of the task's region comes; of a reshape all of its source, and there it may make fewer calls.
 ///
+/// Each key is called as often as it is counted so (`called`): whatever weight each key has, the calls add to the tally what those
+/// of the chunks add that are read and written.
+///
 /// `Store`: a call of the store failed. `BadChunk`: a chunk that the task reads is held with another number of bytes than a
 /// chunk has. `NoMemory`: the store lacked memory.
 pub fn run_task_of<C: Chunks>(
@@ -58,6 +61,8 @@ pub fn run_task_of<C: Chunks>(
     ensures stored { (env : Elements) → IsTaskReady plan.now op task env (C.shown access.old) → OnOk result (HoldsCells plan.now op task env (C.shown access.new)) }
     ensures step { Steps (TaskChange plan.now op task (C.shown access.old)) 0 (calls_of plan.now op task) (C.shown access.old) (C.shown access.new) }
     ensures all { HasSureCalls plan.now op → OnOk result (Made (calls_of plan.now op task) (C.shown access.old).calls (C.shown access.new).calls) }
+    ensures called { HasSureCalls plan.now op
+        → OnOk result (Adds (tally_of (C.weight store.now) plan.now op task) (C.tally access.old) (C.tally access.new)) }
     ensures cause { IfErr result (IsTaskFault (C.shown access.old) (C.shown access.new) plan.now op task) }
 {
     run_plan_task::<C>(store, access, &PlanTask::make(plan, op, task), bytes, words)
@@ -89,6 +94,8 @@ fn run_plan_task<C: Chunks>(
     ensures all { IsSure task.now
         → OnOk result (Made (calls_to_read task.now + calls_to_write task.now)
         (C.shown access.old).calls (C.shown access.new).calls) }
+    ensures called { IsSure task.now
+        → OnOk result (Adds (tally_of_task (C.weight store.now) task.now) (C.tally access.old) (C.tally access.new)) }
     ensures cause { IfErr result (IsOwnFault task.now (C.shown access.old) (C.shown access.new)) }
 {
     let mut room = TaskRoom::split(task, bytes, words);

@@ -3,14 +3,15 @@ ghost use Rattle.std.specs.Prelude.{◌≡◌, ℕ, ◌<◌, ◌≤◌, true, Op
 ghost use Rattle.cu_shape.specs.Index.{differences};
 ghost use Rattle.cu_store.specs.Faults.{Rose};
 ghost use Rattle.cu_store.specs.Held.{Contents};
-ghost use Rattle.cu_store.specs.Chunks.{Keeps, StaysOpen};
+ghost use Rattle.cu_store.specs.Chunks.{Adds, Keeps, StaysOpen};
 ghost use Rattle.cu_task.specs.Asks.{MayReadSources};
 ghost use Rattle.cu_store.specs.Steps.{NoChange, Steps};
 ghost use Rattle.cu_op.specs.Kind.Pull.{shapes_at};
-ghost use Rattle.cu_region.specs.Reading.{IsChunkReadFault};
+ghost use Rattle.cu_region.specs.Reading.{key_at, IsChunkReadFault};
 ghost use Rattle.cu_region.specs.Writing.{AreElements};
 ghost use Rattle.cu_task.specs.Views.{source_in, is_exact, source_calls, sure_calls, view_calls, IsSourceKey, IsKnown, HaveCome, IsAny, HasPulled};
 ghost use Rattle.cu_task.specs.ViewJobs.{IsViewJob, view_task_of, made_in, buffer_room, source_room, view_of_part, IsSourceRegion, IsSourceChunk, IsChunkRegion, view_of_chunk, source_of_chunk, room_for_chunk, IsKeyOfSource, is_needed_chunk, calls_for_chunk, HaveComeFrom, IsMovedFrom, HasHull, IsViewFault};
+ghost use Rattle.cu_task.specs.ViewJobs.{tally_for_chunk, tally_for_source, tally_for_sources, IsExactJob};
 
 use arrayvec::ArrayVec;
 use cu_codec::chunk_bytes;
@@ -138,6 +139,9 @@ pub(crate) fn read_sources<C: Chunks>(
     ensures all { OnOk result (Rose
         (sure_calls job.now.pull.now (view_calls (view_task_of job.now) (length job.now.ins.now)))
         (C.shown access.old).calls (C.shown access.new).calls) }
+    ensures called { IsExactJob job.now → OnOk result
+        (Adds (tally_for_sources (C.weight store.now) job.now (length job.now.ins.now))
+        (C.tally access.old) (C.tally access.new)) }
     ensures cause { IfErr result (IsViewFault (C.shown access.old) (C.shown access.new)
         (view_task_of job.now)) }
 {
@@ -172,6 +176,9 @@ fn read_source<C: Chunks>(
     ensures all { OnOk result (Rose
         (sure_calls job.now.pull.now (source_calls (view_task_of job.now) source))
         (C.shown access.old).calls (C.shown access.new).calls) }
+    ensures called { IsExactJob job.now → OnOk result
+        (Adds (tally_for_source (C.weight store.now) job.now source)
+        (C.tally access.old) (C.tally access.new)) }
     ensures cause { IfErr result (IsChunkReadFault (C.shown access.old) (C.shown access.new)
         (IsSourceKey (view_task_of job.now) source) (source_room (view_task_of job.now) source)) }
 {
@@ -229,6 +236,9 @@ fn read_within<C: Chunks>(
     ensures all { OnOk result (Rose (sure_calls part.now.job.now.pull.now
         (source_calls (view_of_part part.now) part.now.source))
         (C.shown access.old).calls (C.shown access.new).calls) }
+    ensures called { IsExactJob part.now.job.now → OnOk result
+        (Adds (tally_for_source (C.weight store.now) part.now.job.now part.now.source)
+        (C.tally access.old) (C.tally access.new)) }
     ensures cause { IfErr result (IsChunkReadFault (C.shown access.old) (C.shown access.new)
         (IsSourceKey (view_of_part part.now) part.now.source)
         (source_room (view_of_part part.now) part.now.source)) }
@@ -275,6 +285,8 @@ fn read_piece<C: Chunks>(
     ensures step { Steps NoChange (sure_calls chunk.now.job.now.pull.now (calls_for_chunk chunk.now))
         (calls_for_chunk chunk.now)
         (C.shown access.old) (C.shown access.new) }
+    ensures called { IsExactJob chunk.now.job.now
+        → Adds (tally_for_chunk (C.weight store.now) chunk.now) (C.tally access.old) (C.tally access.new) }
     ensures cause { IfErr result (IsChunkReadFault (C.shown access.old) (C.shown access.new)
         (IsKeyOfSource chunk.now) (room_for_chunk chunk.now)) }
 {
@@ -349,6 +361,8 @@ fn take_chunk<C: Chunks>(
         → IsKnown (IsKeyOfSource chunk.now) told (C.shown access.old)
         → OnOk result (HaveComeFrom chunk.now told output.old output.new) }
     ensures step { Steps NoChange 1 1 (C.shown access.old) (C.shown access.new) }
+    ensures called { Adds (C.weight store.now (key_at (source_of_chunk chunk.now) chunk.now.coord))
+        (C.tally access.old) (C.tally access.new) }
     ensures cause { IfErr result (IsChunkReadFault (C.shown access.old) (C.shown access.new)
         (IsKeyOfSource chunk.now) (room_for_chunk chunk.now)) }
 {

@@ -1,5 +1,6 @@
 //! Tasks of a plan whose chunks lie in a yard.
 ghost use Rattle.std.specs.Prelude.{◌≡◌, ◌+◌, ◌*◌, ◌<◌, length, Some, IfErr, OnOk};
+ghost use Rattle.cu_store.specs.Chunks.{Adds};
 ghost use Rattle.cu_store.specs.Held.{Contents};
 ghost use Rattle.cu_store.specs.Steps.{Steps};
 ghost use Rattle.cu_store.specs.Yard.{shown_by};
@@ -9,7 +10,7 @@ ghost use Rattle.cu_op.specs.Schedule.{op_of};
 ghost use Rattle.cu_op.specs.Value.{stored_inputs};
 ghost use Rattle.cu_region.specs.Calls.{Made};
 ghost use Rattle.cu_region.specs.Passes.{IsLaterIn};
-ghost use Rattle.cu_task.specs.Calls.{calls_of, HasSureCalls};
+ghost use Rattle.cu_task.specs.Calls.{calls_of, tally_of, HasSureCalls};
 ghost use Rattle.cu_task.specs.Serving.{ServesPlan, HasSeenInputs, HasSeenOutputs, IsBadOfInput};
 ghost use Rattle.cu_task.specs.Task.{steps_within, TaskChange, HoldsCells, IsTaskFault};
 
@@ -50,6 +51,8 @@ pub fn run_task<Y: Yard>(
     ensures step { Steps (TaskChange plan.now op task (shown_by (Y.knows pass.old))) 0 (calls_of plan.now op task)
         (shown_by (Y.knows pass.old)) (shown_by (Y.knows pass.new)) }
     ensures all { HasSureCalls plan.now op → OnOk result (Made (calls_of plan.now op task) (Y.knows pass.old).calls (Y.knows pass.new).calls) }
+    ensures called { HasSureCalls plan.now op
+        → OnOk result (Adds (tally_of (Y.weight yard.now) plan.now op task) (Y.tally pass.old) (Y.tally pass.new)) }
     ensures cause { IfErr result (IsTaskFault (shown_by (Y.knows pass.old)) (shown_by (Y.knows pass.new)) plan.now op task) }
     ensures bad { IfErr result (IsBadOfInput plan.now (Y.serves yard.now).promise (Y.serves yard.now).entries) }
 {

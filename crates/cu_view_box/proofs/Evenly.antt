@@ -21,7 +21,7 @@ no_place : (ds : List ℕ) → place_of ds [] ≡ 0
 no_place [] = refl
 no_place (d ∷ ds) = refl
 
-place_split : (d : ℕ) (ds is : List ℕ) → place_of (d ∷ ds) is ≡ get_or is 0 0 * product ds + place_of ds (drop 1 is)
+pub place_split : (d : ℕ) (ds is : List ℕ) → place_of (d ∷ ds) is ≡ get_or is 0 0 * product ds + place_of ds (drop 1 is)
 place_split d ds [] = let e = no_place ds in omega arith
 place_split d ds (i ∷ is) = refl
 

@@ -1,4 +1,5 @@
 pub mod Boxes
+pub mod Drawn
 pub mod Evenly
 mod Examples
 pub mod Lined
@@ -6,8 +7,9 @@ pub mod ReadOver
 pub mod MetRuns
 pub mod Reshapes
 pub mod Rows
-pub mod Runs
+pub mod RunBoxes
 pub mod SharedBoxes
 pub mod Slices
 pub mod Intervals
 pub mod Stretches
+pub mod Strided

@@ -1,5 +1,5 @@
--- Elements that are written at the places of a line, one after another, and lines that are copied as rows.
-use Rattle.std.proofs.Common.{◌≡◌, ◌≢◌, ℕ, ◌+◌, ◌-◌, ◌*◌, ◌<◌, ◌≤◌, ◌⊎◌, List, ◌++◌, length, take, drop, refl, sym, ap, ◌∙◌, subst, arith, inl, inr, length-append, length-drop, below_more, ℤ}
+-- Elements that are written at the places of a line, one after another.
+use Rattle.std.proofs.Common.{◌≡◌, ◌≢◌, ℕ, ◌+◌, ◌*◌, ◌<◌, ◌≤◌, List, ◌++◌, length, take, drop, refl, sym, ap, ◌∙◌, arith, length-append, length-drop, below_more, ℤ}
 use Rattle.std.proofs.lemmas.List.{length-take}
 use Rattle.cu_num.specs.Dtype.{size_of}
 use Rattle.cu_num.specs.Element.{bytes_at, element_at, element_bytes, low_bytes}
@@ -8,12 +8,8 @@ use Rattle.cu_num.specs.declared.types.Dtype.{Dtype}
 use Rattle.cu_num.specs.declared.layout.Endian.TheVariants.{Little}
 use Rattle.cu_num.proofs.ElementBytes.{written_at, bytes_at-written_at_same, bytes_at-written_at_other, length-element_bytes, element_at_own, element_at-element_bytes}
 use Rattle.cu_num.proofs.Wrapped.{wrapped-wrapped}
-use Rattle.cu_box.specs.Order.{part_at}
-use Rattle.cu_box.specs.Rows.{spaced, FitRows, AreApart, AreRowsCopied}
-use Rattle.cu_box.specs.declared.rows.Rows.{Rows}
-use Rattle.cu_box.specs.declared.rows.Spacing.{Spacing}
 use Rattle.cu_view_box.specs.Block.{AreSpelled}
-use Rattle.cu_view_box.specs.Line.{on_line, IsDense, AreRowsOfLines, FitsLine, IsOneEach, AreCopied, AreConverted, AreOthersKept}
+use Rattle.cu_view_box.specs.Line.{on_line, FitsLine, IsOneEach, AreOthersKept}
 use Rattle.cu_view_box.specs.declared.lines.Line.{Line}
 
 pub length_written : (at count : ℕ) (bytes own : List ℕ) → length own ≡ count → at + count ≤ length bytes → length (take at bytes ++ own ++ drop (at + count) bytes) ≡ length bytes
@@ -63,112 +59,3 @@ lined_converted source target count done at number bytes old now new there one b
     lined_more target (λ j. element_bytes Little target.dtype (element_at Little source.dtype bytes (on_line source j))) done count old now new
     (element_bytes Little target.dtype number) one below (there done below).1 (length-element_bytes Little target.dtype number)
     (ap (element_bytes Little target.dtype) en) (wrote ∙ rw ea refl) was
-
--- copied elements that are spelled as their type has them are the numbers
-pub copied_converted : (source target : Line) (count : ℕ) (bytes new : List ℕ) → source.dtype ≡ target.dtype → AreSpelled source.dtype bytes → FitsLine source count bytes
-    → AreCopied source bytes target new count → AreConverted source bytes target new count
-copied_converted source target count bytes new same spelled fits copied j b =
-    copied j b ∙ (rw (← same) (spelled_own source.dtype bytes (on_line source j) spelled (fits j b).1))
-
--- ---- two lines as rows
-dense : (places : Spacing) (j : ℕ) → IsDense places → spaced places 0 + j ≡ spaced places j
-dense places j e = rw e (omega arith)
-
--- the rows that are read, or that are written, lie in the buffer
-pub rows_fit : (line : Line) (size count : ℕ) (rows : Rows) (places : Spacing) (bytes : List ℕ) → 0 < count → size ≡ size_of line.dtype → places ≡ line.places
-    → ((rows.run ≡ 1) × (rows.count ≡ count)) ⊎ (IsDense line.places × (rows.run ≡ count) × (rows.count ≡ 1)) → FitsLine line count bytes → FitRows size rows places bytes
-rows_fit line size count rows places bytes some es own are fits r b = subst Room (sym own) (elim are [
-  | inl p ↦
-      let n = p.1 in
-      let h = fits r (omega (arith, b, n)) in
-      let room : spaced line.places r * size + size ≤ length bytes = rw es h.1 in
-      let one : rows.run * size ≡ size = ap (λ n. n * size) p.0 ∙ omega arith in
-      (h.0, omega (arith, room, one))
-  | inr p ↦
-      let n = p.2 in
-      let none : r ≡ 0 = omega (arith, b, n) in
-      let last : spaced line.places (count - 1) ≡ spaced line.places 0 + (count - 1) = sym (dense line.places (count - 1) p.0) in
-      let h : spaced line.places (count - 1) * size + size ≤ length bytes = rw es (fits (count - 1) (omega arith)).1 in
-      let room : (spaced line.places 0 + (count - 1)) * size + size ≤ length bytes = rw last at h in
-      let whole : (count - 1) + 1 ≡ rows.run = (let m = p.1 in omega arith) in
-      let scaled : ((count - 1) + 1) * size ≡ rows.run * size = ap (λ n. n * size) whole in
-      let all : (count - 1) * size + size ≡ rows.run * size = omega (arith, scaled) in
-      subst (λ (k : ℕ). (k * line.places.first ≤ line.places.first + k * line.places.next) × (spaced line.places k * size + rows.run * size ≤ length bytes)) (sym none)
-      (omega arith, omega (arith, room, all))
-])
-  where
-    Room : Spacing → Type 0
-    Room p = (r * p.first ≤ p.first + r * p.next) × (spaced p r * size + rows.run * size ≤ length bytes)
-
--- element number j of two lines is number i of row r
-record IsOfRow (source target : Spacing) (rows : Rows) (r i j : ℕ) : Type 0 where
-  pub row : r < rows.count
-  pub within : i < rows.run
-  pub from : spaced rows.from r + i ≡ spaced source j
-  pub to : spaced rows.to r + i ≡ spaced target j
-
-module _ (source target : Line) (size count : ℕ) (rows : Rows) (es : size ≡ size_of target.dtype)
-    (from : rows.from ≡ source.places) (to : rows.to ≡ target.places) (are : AreRowsOfLines source.places target.places count rows.run rows.count) where
-  row_of : (j : ℕ) → j < count → (r : ℕ) × (i : ℕ) × IsOfRow source.places target.places rows r i j
-  row_of j b = elim are [
-    | inl p ↦
-        let m = p.0 in
-        let n = p.1 in (
-          j,
-          0,
-          record {
-            row = omega arith;
-            within = omega arith;
-            from = ap (λ (s : Spacing). spaced s j + 0) from ∙ omega arith;
-            to = ap (λ (s : Spacing). spaced s j + 0) to ∙ omega arith;
-          },
-        )
-    | inr p ↦
-        let m = p.2 in
-        let n = p.3 in (
-          0,
-          j,
-          record {
-            row = omega arith;
-            within = omega arith;
-            from = ap (λ (s : Spacing). spaced s 0 + j) from ∙ dense source.places j p.0;
-            to = ap (λ (s : Spacing). spaced s 0 + j) to ∙ dense target.places j p.1;
-          },
-        )
-  ]
-
-  element_of : (r i : ℕ) → r < rows.count → i < rows.run → (j : ℕ) × (j < count) × (spaced rows.to r + i ≡ spaced target.places j)
-  element_of r i br bi = elim are [
-    | inl p ↦
-        let m = p.0 in
-        let n = p.1 in
-        let none : i ≡ 0 = omega arith in
-        (r, omega arith, ap (λ (s : Spacing). spaced s r + i) to ∙ rw none (omega arith))
-    | inr p ↦
-        let m = p.2 in
-        let n = p.3 in
-        let none : r ≡ 0 = omega arith in
-        (i, omega arith, ap (λ (s : Spacing). spaced s r + i) to ∙ rw none (dense target.places i p.1))
-  ]
-
-  pub rows_apart : IsOneEach target count → AreApart rows
-  rows_apart one r s j i br bs bj bi e = elim are [
-    | inl p ↦
-        let m = p.0 in
-        let n = p.1 in
-        let nj : j ≡ 0 = omega arith in
-        let ni : i ≡ 0 = omega arith in
-        let y : spaced rows.to r + 0 ≡ spaced rows.to s + 0 = rw (nj, ni) at e in
-        let x : spaced rows.to r ≡ spaced rows.to s = omega (arith, y) in
-        one r s (omega arith) (omega arith) (ap (λ (s : Spacing). spaced s r) (sym to) ∙ x ∙ ap (λ (p : Spacing). spaced p s) to)
-    | inr p ↦ let n = p.3 in omega arith
-  ]
-
-  pub rows_copied : (bytes old new : List ℕ) → AreRowsCopied size Little rows bytes old new → AreCopied source bytes target new count
-  rows_copied bytes old new c j b =
-      let (r, i, at) = row_of j b in
-      rw (← es) (ap (part_at size new) (sym at.to) ∙ c.copied r i at.row at.within ∙ ap (part_at size bytes) at.from)
-
-  pub rows_kept : (bytes old new : List ℕ) → AreRowsCopied size Little rows bytes old new → AreOthersKept target count old new
-  rows_kept bytes old new c q off =
-      rw (← es) (c.others q (λ r i br bi e. (let (j, b, own) = element_of r i br bi in off j b (sym own ∙ e))))

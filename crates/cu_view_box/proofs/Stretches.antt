@@ -1,12 +1,11 @@
 -- A part of a reshape's result that is drawn stretch by stretch along an axis.
-use Rattle.std.proofs.Common.{◌≡◌, ℕ, ◌+◌, ◌-◌, ◌<◌, ◌≤◌, List, length, get_or, set, refl, sym, ap, ◌∙◌, subst, arith, inl, inr}
-use Rattle.std.proofs.lemmas.Bool.{cases_lt, lt-ltb}
-use Rattle.std.proofs.lemmas.List.{set-get_or, get_or-set_same, get_or-set_other, length-set}
+use Rattle.std.proofs.Common.{◌≡◌, ℕ, ◌<◌, ◌≤◌, List, length, get_or, set, ◌∙◌, arith, inl, inr}
+use Rattle.std.proofs.lemmas.Bool.{cases_lt}
+use Rattle.std.proofs.lemmas.List.{set-get_or, get_or-set_same}
 use Rattle.cu_grid.specs.Counts.{IsWithin}
 use Rattle.cu_grid.specs.declared.region.Region.{Region}
 use Rattle.cu_grid.proofs.Meeting.{within_of}
-use Rattle.cu_view_box.specs.Reshape.{reshaped, IsDrawn, AreOthersLeft, IsPart, IsRunOfBoth}
-use Rattle.cu_view_box.specs.Row.{IsRowAlong, row_count}
+use Rattle.cu_view_box.specs.Reshape.{IsDrawn, AreOthersLeft, IsPart}
 use Rattle.cu_view_box.specs.declared.block.Block.{Block}
 use Rattle.cu_view_box.proofs.Boxes.{within_set, at_axis, moved_within}
 use Rattle.cu_view_box.proofs.Slices.{Holds, up_to}
@@ -66,26 +65,6 @@ module _ (part : Region) (axis start stop : ℕ) (some : Holds part part.lo) (be
   left_more origin from to old now new was left idx w off =
       left idx w (λ s. (let p = in_stretch idx s.0 in let p2 = p.2 in off (to_front stop high idx p.0 (omega arith), s.1)))
       ∙ was idx w (λ s. (let p = in_front start (omega arith) idx s.0 in let p1 = p.1 in off (to_front stop high idx p.0 (omega arith), s.1)))
-
-  pub stretch_run : (source shape : List ℕ) → axis ≡ length part.lo - 1 → IsRowAlong part axis
-      → (1 < stop - start → (0 < length source)
-      × (get_or (reshaped source shape (set part.lo axis start)) (length source - 1) 0 + (stop - start) ≤ get_or source (length source - 1) 0))
-      → IsRunOfBoth source shape (stretch part axis start stop)
-  stretch_run source shape last row stays = record {
-    row = subst (λ (a : ℕ). IsRowAlong (stretch part axis start stop) a) is_last
-        (λ k b off. (let l = length-set part.lo axis start in
-        rw (get_or-set_other part.hi axis k stop 0 off, get_or-set_other part.lo axis k start 0 off) (row k (omega arith) off)));
-    stays = λ h. (let e = counted in let s = stays (omega arith) in let s1 = s.1 in (s.0, rw counted s1));
-  }
-    where
-      is_last : axis ≡ length (set part.lo axis start) - 1
-      is_last = last ∙ ap (λ n. n - 1) (sym (length-set part.lo axis start))
-
-      counted : row_count (stretch part axis start stop) (length (set part.lo axis start) - 1) ≡ stop - start
-      counted =
-          rw (← is_last)
-          (rw (length-set part.lo axis start, lt-ltb axis (length part.lo) below)
-          (let r = rank in rw (get_or-set_same part.hi axis stop 0 (omega arith), get_or-set_same part.lo axis start 0 below) refl))
 
 fields_same : (lo lo' hi hi' : List ℕ) → lo ≡ lo' → hi ≡ hi' → region_of lo hi ≡ region_of lo' hi'
 fields_same lo lo' hi hi' p q = cc

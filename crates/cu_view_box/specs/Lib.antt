@@ -1,4 +1,6 @@
+pub mod Along
 pub mod Block
+pub mod Drawn
 pub mod Line
 pub mod Piece
 pub mod Reshape

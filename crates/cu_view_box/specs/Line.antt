@@ -1,10 +1,9 @@
 -- Elements at evenly spaced places of a buffer. This project's own rules.
-use Rattle.std.specs.Prelude.{◌≡◌, ◌≢◌, ℕ, ◌+◌, ◌*◌, ◌<◌, ◌≤◌, ◌⊎◌, List, length}
+use Rattle.std.specs.Prelude.{◌≡◌, ◌≢◌, ℕ, ◌+◌, ◌*◌, ◌<◌, ◌≤◌, List, length}
 use Rattle.cu_num.specs.Dtype.{size_of}
 use Rattle.cu_num.specs.Element.{bytes_at, element_at, element_bytes}
 use Rattle.cu_num.specs.declared.layout.Endian.TheVariants.{Little}
 use Rattle.cu_box.specs.Rows.{spaced}
-use Rattle.cu_box.specs.declared.rows.Spacing.{Spacing}
 use Rattle.cu_view_box.specs.declared.lines.Line.{Line}
 
 -- the place of element number j of a line
@@ -18,18 +17,6 @@ FitsLine line count bytes = (j : ℕ) → j < count → (j * line.places.first �
 -- no place stands on the line twice
 abbrev pub IsOneEach : Line → ℕ → Type 0
 IsOneEach line count = (i j : ℕ) → i < count → j < count → on_line line i ≡ on_line line j → i ≡ j
-
--- the places follow one another
-abbrev pub IsDense : Spacing → Type 0
-IsDense places = places.next ≡ places.first + 1
-
--- so many elements at the places of two lines are `rows` rows of `run` elements: a row each, or one row if they stand together in both
-abbrev pub AreRowsOfLines : Spacing → Spacing → ℕ → ℕ → ℕ → Type 0
-AreRowsOfLines source target count run rows = ((run ≡ 1) × (rows ≡ count)) ⊎ (IsDense source × IsDense target × (run ≡ count) × (rows ≡ 1))
-
--- the elements of a line have the bytes of those of another
-abbrev pub AreCopied : Line → List ℕ → Line → List ℕ → ℕ → Type 0
-AreCopied source bytes target new count = (j : ℕ) → j < count → bytes_at target.dtype new (on_line target j) ≡ bytes_at target.dtype bytes (on_line source j)
 
 -- the elements of a line are the numbers of those of another
 abbrev pub AreConverted : Line → List ℕ → Line → List ℕ → ℕ → Type 0

@@ -1,12 +1,11 @@
 -- The elements of an array in another shape, in row-major order (Python array API 2022.12, "reshape").
-use Rattle.std.specs.Prelude.{◌≡◌, ℕ, ◌+◌, ◌-◌, ◌^◌, ◌<◌, ◌≤◌, List, length, slice_index}
+use Rattle.std.specs.Prelude.{◌≡◌, ℕ, ◌+◌, ◌^◌, ◌<◌, ◌≤◌, List, length, slice_index}
 use Rattle.cu_num.specs.Element.{bytes_at, element_at, element_bytes}
 use Rattle.cu_num.specs.declared.layout.Endian.TheVariants.{Little}
 use Rattle.cu_shape.specs.Index.{product, place_of, index_at, IsInside}
 use Rattle.cu_grid.specs.Counts.{IsWithin}
 use Rattle.cu_grid.specs.declared.region.Region.{Region}
 use Rattle.cu_view_box.specs.Block.{buffer_place}
-use Rattle.cu_view_box.specs.Row.{IsRowAlong, row_count}
 use Rattle.cu_view_box.specs.declared.block.Block.{Block}
 
 -- the index of the source that stands at the place of an index of the result
@@ -34,12 +33,6 @@ pub record IsPart (shape : List ℕ) (part : Region) (to : Block) : Type 0 where
   pub some : IsWithin part.lo part.hi part.lo
   pub inside : (idx : List ℕ) → IsWithin part.lo part.hi idx → IsInside shape idx
   pub of_result : (idx : List ℕ) → IsWithin part.lo part.hi idx → IsWithin to.region.lo to.region.hi idx
-
--- a row along the last axis whose elements stand in one row of the source
-pub record IsRunOfBoth (source shape : List ℕ) (run : Region) : Type 0 where
-  pub row : IsRowAlong run (length run.lo - 1)
-  pub stays : 1 < row_count run (length run.lo - 1) → (0 < length source)
-      × (slice_index (reshaped source shape run.lo) (length source - 1) + row_count run (length run.lo - 1) ≤ slice_index source (length source - 1))
 
 -- on each axis up to the first on which two indices differ, an index lies between them
 abbrev pub IsBetweenUpToDifference : List ℕ → List ℕ → List ℕ → Type 0

@@ -5,8 +5,9 @@ ghost use Rattle.cu_view_box.specs.Block.{IsBlock, IsMove, IsMoved, IsKept, AreS
 ghost use Rattle.cu_view_box.specs.Piece.{read_at, IsWayOver};
 ghost use Rattle.cu_view_box.specs.Row.{IsRowAlong, IsSingle, row_index, row_count};
 
+use crate::along::copy_along;
 use crate::block::Block;
-use crate::lines::{Line, move_line};
+use crate::lines::{Line, convert_line};
 use crate::piece::Piece;
 use crate::reads::read_from;
 use cu_box::Spacing;
@@ -39,7 +40,11 @@ pub fn copy_box(
         bytes,
         to,
     };
-    copy_rows(&copying, part, 0, row_axis(part), output);
+    if from.dtype == to.dtype {
+        copy_along(&copying, part, output);
+    } else {
+        copy_rows(&copying, part, 0, row_axis(part), output);
+    }
 }
 
 /// The axis along which a part is copied in rows: the last one on which it has many indices, else the one on which it has most;
@@ -65,21 +70,20 @@ fn row_axis(part: &Region) -> u32
 
 /// What is copied: a piece's elements, out of the bytes of a block of its source, into a block of the result.
 #[derive(Clone, Copy)]
-struct Copying<'a> {
-    piece: &'a Piece,
-    from: &'a Block,
-    bytes: &'a [u8],
-    to: &'a Block,
+pub(crate) struct Copying<'a> {
+    pub(crate) piece: &'a Piece,
+    pub(crate) from: &'a Block,
+    pub(crate) bytes: &'a [u8],
+    pub(crate) to: &'a Block,
 }
 
-/// The same for a part that has one index on each axis below `level` but the rows' axis.
+/// The same, number by number, for a part that has one index on each axis below `level` but the rows' axis.
 fn copy_rows(copying: &Copying<'_>, part: &Region, level: u32, axis: u32, output: &mut [u8])
     requires level { level ≤ length part.now.lo }
     requires single { IsSingle part.now axis level }
     requires moves { IsMove copying.now.piece.now part.now copying.now.from.now copying.now.to.now }
     requires from_block { IsBlock copying.now.from.now copying.now.bytes.now }
     requires to_block { IsBlock copying.now.to.now output.old }
-    requires spelled { copying.now.from.now.dtype ≡ copying.now.to.now.dtype → AreSpelled copying.now.from.now.dtype copying.now.bytes.now }
     ensures moved { IsMoved copying.now.piece.now part.now copying.now.from.now copying.now.bytes.now copying.now.to.now output.new }
     ensures others { IsKept part.now copying.now.to.now output.old output.new }
 {
@@ -132,7 +136,6 @@ fn copy_row(
     requires moves { IsMove piece.now part.now from.now to.now }
     requires from_block { IsBlock from.now bytes.now }
     requires to_block { IsBlock to.now output.old }
-    requires spelled { from.now.dtype ≡ to.now.dtype → AreSpelled from.now.dtype bytes.now }
     ensures moved { IsMoved piece.now part.now from.now bytes.now to.now output.new }
     ensures others { IsKept part.now to.now output.old output.new }
 {
@@ -148,11 +151,11 @@ fn copy_row(
     let target = Line {
         dtype: to.dtype,
         places: Spacing {
-            first: result_place(to, output, &part.lo),
-            next: result_place(to, output, &next),
+            first: block_place(to, output, &part.lo),
+            next: block_place(to, output, &next),
         },
     };
-    move_line(&source, bytes, &target, output, count);
+    convert_line(&source, bytes, &target, output, count);
 }
 
 /// The indices of a row.
@@ -168,7 +171,7 @@ pub(crate) fn length_of_row(part: &Region, axis: u32) -> u64
 }
 
 /// The second index of a row, or its only one.
-fn second_of_row(part: &Region, axis: u32, count: u64) -> Dims
+pub(crate) fn second_of_row(part: &Region, axis: u32, count: u64) -> Dims
     requires some { IsWithin part.now.lo part.now.hi part.now.lo }
     requires count { count ≡ row_count part.now axis }
     ensures { result ≡ row_index part.now.lo axis (min 1 (count - 1)) }
@@ -181,7 +184,7 @@ fn second_of_row(part: &Region, axis: u32, count: u64) -> Dims
 }
 
 /// The place in a block of a source of what a piece reads at an index.
-fn source_place(piece: &Piece, from: &Block, bytes: &[u8], idx: &Dims) -> u64
+pub(crate) fn source_place(piece: &Piece, from: &Block, bytes: &[u8], idx: &Dims) -> u64
     requires ways { All (IsWayOver piece.now.region.lo piece.now.region.hi) piece.now.ways.items }
     requires of_piece { IsWithin piece.now.region.lo piece.now.region.hi idx.now }
     requires of_source { IsWithin from.now.region.lo from.now.region.hi (read_at piece.now idx.now) }
@@ -191,11 +194,11 @@ fn source_place(piece: &Piece, from: &Block, bytes: &[u8], idx: &Dims) -> u64
     place(&from.dims, &read_from(piece, &from.region, idx))
 }
 
-/// The place in a block of the result of an index.
-fn result_place(to: &Block, output: &[u8], idx: &Dims) -> u64
-    requires of_result { IsWithin to.now.region.lo to.now.region.hi idx.now }
-    requires block { IsBlock to.now output.now }
-    ensures { result ≡ buffer_place to.now idx.now }
+/// The place in a block of an index.
+pub(crate) fn block_place(block: &Block, bytes: &[u8], idx: &Dims) -> u64
+    requires within { IsWithin block.now.region.lo block.now.region.hi idx.now }
+    requires block { IsBlock block.now bytes.now }
+    ensures { result ≡ buffer_place block.now idx.now }
 {
-    place(&to.dims, &difference(idx, &to.region.lo))
+    place(&block.dims, &difference(idx, &block.region.lo))
 }

@@ -1,13 +1,16 @@
 //! How views read their sources, over boxes of the result.
 #![tactic(auto)]
 
+mod along;
 mod block;
 mod copy;
+mod drawing;
 mod gathering;
 mod lines;
 mod piece;
 mod reads;
 mod reshape;
+mod runs;
 mod shared;
 mod way;
 

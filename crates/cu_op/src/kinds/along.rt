@@ -5,7 +5,7 @@ ghost use Rattle.cu_op.specs.Arrays.{grid_at};
 
 use super::{one_walk, two_walks};
 use crate::layout::{ArrayInfo, grid_of};
-use crate::memory::room_of;
+use crate::memory::chunk_room;
 use crate::walks::Walk;
 use arrayvec::ArrayVec;
 use cu_grid::Region;
@@ -112,6 +112,6 @@ pub(crate) fn carried_room(arrays: &[ArrayInfo], carry: Option<u32>) -> u64
 {
     match carry {
         None => 0,
-        Some(array) => room_of(arrays, array),
+        Some(array) => chunk_room(arrays, array),
     }
 }

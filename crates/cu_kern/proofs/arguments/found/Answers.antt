@@ -31,7 +31,7 @@ returns-then-row c =
     let is : slice_get code c.args.a ≡ Some (Load j) = slice_get-get_or code c.args.a _ (omega arith) ∙ ap Some c.in-Load.is in
     if_some c.row_strip.result _ _ _
     (λ s places same. row_results r loads earlier.range.count c.args.a (Load j) _ c.args.kind (strip s.bytes.now s.step) (omega arith) is (slice_get-get_or earlier.kernel.rows.now c.args.a _ (omega arith))
-    (λ y e. cc) (λ k e. c.if-row.true) places same)
+    (λ y e. cc) c.if-row.true places same)
     c.row_strip.ensures.places c.row_strip.ensures.elements
 
 pub returns-else-row : goal.returns-else-row
@@ -46,13 +46,13 @@ returns-else-row c =
     (λ s places same. region_results r loads earlier.range.count c.args.a j _ c.args.kind (strip s.bytes.now s.step) (omega arith) is (slice_get-get_or earlier.kernel.rows.now c.args.a (record { dtype = c.args.kind; at = 0; kept = true; load = Nothing }) (omega arith)) places same)
     c.region_strip.ensures.places c.region_strip.ensures.elements
 
-pub returns-in_default : goal.returns-in_default
-returns-in_default c =
+pub returns-then-row-2 : goal.returns-then-row-2
+returns-then-row-2 c =
     let earlier = c.args.earlier in
     let code = earlier.kernel.code.now in
     let r = rows_before code earlier.kernel.rows.now earlier.bytes.now earlier.number in
     let loads = loads_along earlier.kernel.inputs.lays.now earlier.kernel.inputs.ins.now earlier.kernel.inputs.dims.now earlier.range.from in
-    if_some c.row_strip-in_default.result _ _ _
+    if_some c.row_strip-then-row-2.result _ _ _
     (λ s places same. row_results r loads earlier.range.count c.args.a _ _ c.args.kind (strip s.bytes.now s.step) (omega arith) (slice_get-get_or code c.args.a _ (omega arith))
-    (slice_get-get_or earlier.kernel.rows.now c.args.a _ (omega arith)) c.in_default.not-Const (λ j e. absurd (c.in_default.not-Load j e)) places same)
-    c.row_strip-in_default.ensures.places c.row_strip-in_default.ensures.elements
+    (slice_get-get_or earlier.kernel.rows.now c.args.a _ (omega arith)) c.in_default.not-Const c.if-row-2.true places same)
+    c.row_strip-then-row-2.ensures.places c.row_strip-then-row-2.ensures.elements

@@ -1,16 +1,11 @@
-use Rattle.std.proofs.Common.{rules, ◌≡◌, ◌≤◌, ◌+◌, ◌*◌, ◌/◌, length, ◌∙◌, arith}
-use Rattle.cu_shape.specs.Index.{product}
+use Rattle.std.proofs.Common.{rules, ◌≤◌, ◌+◌, ◌*◌, length, ◌∙◌, arith}
 use Rattle.cu_kern.specs.Steps.{value_by_place}
-use Rattle.cu_kern.proofs.Parts.{element_count}
-use Rattle.cu_kern.proofs.Pieces.{part_within, values_more}
+use Rattle.cu_kern.proofs.Pieces.{part_within, values_from}
 use Rattle.cu_kern.proofs.by_rows.run_each.Goals as goal
 
 -- the part lies in the result
 inside : (c : goal.After-rows-1) → (c.loop-done.done * c.size-size.result ≤ (c.loop-done.done + c.min-count.result) * c.size-size.result) × ((c.loop-done.done + c.min-count.result) * c.size-size.result ≤ length c.loop-done.out)
-inside c =
-    let all = product c.args.inputs.dims.now in
-    let is : length c.args.out.now / c.size-size.result ≡ all = element_count c.args.t (product c.args.inputs.dims.now) c.size-size.result (length c.args.out.now) c.size-size.ensures c.requires.out in
-    part_within c.args.t c.loop-done.done c.min-count.result all c.size-size.result (length c.loop-done.out) c.size-size.ensures (omega (arith, c.min-most.ensures, c.min-count.ensures, c.loop-done-test.true, is)) (c.loop-done.invariant.out_length ∙ c.requires.out)
+inside c = part_within c.args.t c.loop-done.done c.min-count.result c.args.all.count c.size-size.result (length c.loop-done.out) c.size-size.ensures (omega (arith, c.min-most.ensures, c.min-count.ensures, c.loop-done-test.true)) (c.loop-done.invariant.out_length ∙ c.requires.out)
 
 pub overflow_mul-part : goal.overflow_mul-part
 overflow_mul-part c = omega (arith, inside c)
@@ -30,23 +25,20 @@ slice_bounds-part-end c = omega (arith, inside c)
 pub loop-done-preserved : goal.loop-done-preserved
 loop-done-preserved c =
     let inputs = c.args.inputs in
-    let all = product inputs.dims.now in
     let done = c.loop-done.done in
     let size = c.size-size.result in
     let count = c.min-count.result in
-    let is : length c.args.out.now / size ≡ all = element_count c.args.t all size (length c.args.out.now) c.size-size.ensures c.requires.out in
-    let within : done + count ≤ all = omega (arith, c.min-most.ensures, c.min-count.ensures, c.loop-done-test.true, is) in
-    let more = values_more c.args.t c.loop-done.out c.run_row.new.out done count all size (value_by_place c.args.code.now inputs.lays.now inputs.ins.now inputs.dims.now) c.size-size.ensures within
+    let within : done + count ≤ c.args.all.count = omega (arith, c.min-most.ensures, c.min-count.ensures, c.loop-done-test.true) in
+    let more = values_from c.args.t c.loop-done.out c.run_row.new.out c.args.all.from done count c.args.all.count size (value_by_place c.args.code.now inputs.lays.now inputs.ins.now inputs.dims.now) c.size-size.ensures within
     (c.loop-done.invariant.out_length ∙ c.requires.out) c.run_row.auto.out c.loop-done.invariant.values (c.if-not-run_row.ensures (search rules)) in
     record {
-      within = omega (arith, is, within);
+      within = within;
       out_length = more.0 ∙ c.loop-done.invariant.out_length;
       bank_length = c.run_row.auto.bank ∙ c.loop-done.invariant.bank_length;
       values = more.1;
     }
 
 pub returns : goal.returns
-returns c met p h =
-    let all : length c.args.out.now / c.size-size.result ≡ product c.args.inputs.dims.now = element_count c.args.t (product c.args.inputs.dims.now) c.size-size.result (length c.args.out.now) c.size-size.ensures c.requires.out in
+returns c met k h =
     let ends = c.loop-done-test.false in
-    c.loop-done.invariant.values p (omega arith)
+    c.loop-done.invariant.values k (omega arith)

@@ -1,26 +1,23 @@
-use Rattle.std.proofs.Common.{◌<◌, ap, ◌∙◌, sym, subst, ℕ, List}
-use Rattle.cu_shape.specs.Index.{product, place_of}
+use Rattle.std.proofs.Common.{◌≡◌, ◌+◌, ◌/◌, ap, sym, ◌∙◌, length, arith}
+use Rattle.cu_shape.specs.Index.{product, place_of, index_at}
 use Rattle.cu_shape.proofs.Places.{place-below, index-place}
-use Rattle.cu_op.specs.declared.kernel.Instr.{Instr}
 use Rattle.cu_op.specs.Kernel.{kernel_value}
-use Rattle.cu_kern.specs.declared.lays.Lay.{Lay}
-use Rattle.cu_kern.specs.Lays.{HasValue, loaded_at}
-use Rattle.cu_kern.specs.Steps.{value_by_place}
-use Rattle.cu_kern.proofs.Parts.{has_value_element}
+use Rattle.cu_kern.specs.Lays.{loaded_at}
+use Rattle.cu_kern.proofs.Parts.{element_count}
 use Rattle.cu_kern.proofs.run.run_kernel.Goals as goal
 
--- each element has its value
-each : (c : goal.After-slice_known-4-1) (p : ℕ) → p < product c.args.dims.now → HasValue c.args.t c.run_places.new.out p (value_by_place c.args.kernel.now.code.items c.args.lays.now.items c.args.ins.now c.args.dims.now p)
-each c p h =
-    let P : List Instr → Type 0 = λ code. HasValue c.args.t c.run_places.new.out p (value_by_place code c.as_slice-lays.result.now c.args.ins.now c.args.dims.now p) in
-    let Q : List Lay → Type 0 = λ lays. HasValue c.args.t c.run_places.new.out p (value_by_place c.args.kernel.now.code.items lays c.args.ins.now c.args.dims.now p) in
-    subst Q c.as_slice-lays.ensures.value (subst P c.as_slice-code.ensures.value (c.run_places.ensures p h))
+-- as many elements as the result has
+all : (c : goal.After-slice_known-4-1) → length c.args.out.now / c.size.result ≡ product c.args.dims.now
+all c = element_count c.args.t (product c.args.dims.now) c.size.result (length c.args.out.now) c.size.ensures c.requires.out
 
 pub returns-clause-value : goal.returns-clause-value
 returns-clause-value c idx inside =
     let p = place_of c.args.dims.now idx in
-    ap (λ i. kernel_value c.args.kernel.now.code.items (loaded_at c.args.lays.now.items c.args.ins.now i)) (sym (index-place c.args.dims.now idx inside))
-    ∙ (has_value_element c.args.t c.run_places.new.out p _ (each c p (place-below c.args.dims.now idx inside))).0
+    let below = place-below c.args.dims.now idx inside in
+    let is = all c in
+    let begin : p ≡ 0 + p = omega arith in
+    ap (λ i. kernel_value c.args.kernel.now.code.items (loaded_at c.args.lays.now.items c.args.ins.now i)) (sym (index-place c.args.dims.now idx inside) ∙ ap (index_at c.args.dims.now) begin)
+    ∙ c.run_kernel_at.ensures.value p (omega (arith, is, below))
 
 pub returns-clause-bytes : goal.returns-clause-bytes
-returns-clause-bytes c p h = (has_value_element c.args.t c.run_places.new.out p _ (each c p h)).1
+returns-clause-bytes c p h = let is = all c in c.run_kernel_at.ensures.bytes p (omega (arith, is, h))

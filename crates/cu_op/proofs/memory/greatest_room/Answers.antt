@@ -5,4 +5,4 @@ use Rattle.cu_op.proofs.memory.greatest_room.Goals as goal
 
 pub loop-number-preserved : goal.loop-number-preserved
 loop-number-preserved c =
-    rw (c.max-room.ensures, c.room_of.ensures.room, c.loop-number.invariant) (sym (greatest_more (chunk_room c.args.arrays.now) c.args.numbers.now c.loop-number.number-index c.loop-number-test.true))
+    rw (c.max-room.ensures, c.chunk_room.ensures.room, c.loop-number.invariant) (sym (greatest_more (chunk_room c.args.arrays.now) c.args.numbers.now c.loop-number.number-index c.loop-number-test.true))

@@ -4,8 +4,9 @@ use Rattle.std.proofs.lemmas.Result.{err_from_is_err_and}
 use Rattle.cu_region.specs.Reading.{IsChunkKey, key_at, bytes_of}
 use Rattle.cu_store.specs.Steps.{NoChange}
 use Rattle.cu_store.proofs.Steps.{steps_then}
-use Rattle.cu_region.specs.Calls.{chunks_met}
-use Rattle.cu_region.proofs.Calls.{StepsSoFar, steps_none_yet, steps_one_more, steps_most, steps_made}
+use Rattle.std.specs.Prelude.{sum_by}
+use Rattle.cu_region.specs.Calls.{chunks_met, region_tally}
+use Rattle.cu_region.proofs.Calls.{StepsSoFar, steps_none_yet, steps_one_more, steps_most, steps_made, TallySoFar, tally_none_yet, tally_one_more, tally_all}
 use Rattle.cu_region.proofs.SteadyKeys.{hold_same, steady_then, first_contains, rest_contains, none_contained}
 use Rattle.cu_region.proofs.StoredReads.{ReadsSoFar, reads_more, meets_own, fault_more, settled_region}
 use Rattle.cu_store.proofs.StaysOpen.{open_same, open_then}
@@ -23,6 +24,7 @@ loop-coord-init g c =
       read = λ steady idx w. inl (subst (λ (x : List (List ℕ)). Contains x (quotients idx c.args.info.now.layout.grid.chunk)) (sym e)
           ((c.cover-coord-items.ensures.exactly (quotients idx c.args.info.now.layout.grid.chunk)).1
           (meets_own c.args.info.now c.args.region.now.lo c.args.region.now.hi idx c.cover-coord-items.ensures.kept c.requires.region w)));
+      called = tally_none_yet (λ coord. g.C.Chunks.weight c.args.store.now (key_at c.args.info.now coord)) (region_tally (g.C.Chunks.weight c.args.store.now) c.args.info.now c.args.region.now.lo c.args.region.now.hi) c.into_iter-coord-iterator.result (g.C.Chunks.tally c.args.access.now) (ap (sum_by (λ coord. g.C.Chunks.weight c.args.store.now (key_at c.args.info.now coord))) (e ∙ c.cover-coord-items.ensures.chunks));
     }
 
 pub read_part-requires-clause-part : goal.read_part-requires-clause-part
@@ -51,6 +53,8 @@ loop-coord-preserved g c =
           reads_more c.args.info.now c.args.region.now c.in-Some.coord c.loop-coord.out c.read_part.new.out c.next.new.self
           (g.C.Chunks.shown c.loop-coord.access).held (g.C.Chunks.shown c.read_part.new.access).held c.cover-coord-items.ensures.kept c.requires.region (hold_same (IsChunkKey c.args.info.now c.args.region.now.lo c.args.region.now.hi) mid c.read_part.ensures.step) c.in_ok-read_part.ensures.part
           (subst (λ (x : List (List ℕ)). ReadsSoFar c.args.info.now c.args.region.now.lo c.args.region.now.hi (g.C.Chunks.shown c.loop-coord.access).held x c.loop-coord.out) e (c.loop-coord.invariant.read steady));
+      called = tally_one_more (λ coord. g.C.Chunks.weight c.args.store.now (key_at c.args.info.now coord)) (region_tally (g.C.Chunks.weight c.args.store.now) c.args.info.now c.args.region.now.lo c.args.region.now.hi) c.in-Some.coord c.next.new.self (g.C.Chunks.tally c.args.access.now) (g.C.Chunks.tally c.loop-coord.access) (g.C.Chunks.tally c.read_part.new.access)
+          (subst (λ (x : List (List ℕ)). TallySoFar (λ coord. g.C.Chunks.weight c.args.store.now (key_at c.args.info.now coord)) (region_tally (g.C.Chunks.weight c.args.store.now) c.args.info.now c.args.region.now.lo c.args.region.now.hi) x (g.C.Chunks.tally c.args.access.now) (g.C.Chunks.tally c.loop-coord.access)) e c.loop-coord.invariant.called) c.read_part.ensures.called;
     }
 
 pub returns-in_err-read_part-clause-step : goal.returns-in_err-read_part-clause-step
@@ -68,6 +72,12 @@ returns-clause-calls_all g c =
     let e : c.loop-coord.coord-iterator ≡ [] = c.in-None.ensures.steps.0 in
     steps_made NoChange (chunks_met c.args.info.now.layout.grid c.args.region.now.lo c.args.region.now.hi) (g.C.Chunks.shown c.args.access.now) (g.C.Chunks.shown c.loop-coord.access)
     (subst (λ (x : List (List ℕ)). StepsSoFar NoChange (chunks_met c.args.info.now.layout.grid c.args.region.now.lo c.args.region.now.hi) (length x) (g.C.Chunks.shown c.args.access.now) (g.C.Chunks.shown c.loop-coord.access)) e c.loop-coord.invariant.step)
+
+pub returns-clause-called : goal.returns-clause-called
+returns-clause-called g c =
+    let e : c.loop-coord.coord-iterator ≡ [] = c.in-None.ensures.steps.0 in
+    tally_all (λ coord. g.C.Chunks.weight c.args.store.now (key_at c.args.info.now coord)) (region_tally (g.C.Chunks.weight c.args.store.now) c.args.info.now c.args.region.now.lo c.args.region.now.hi) (g.C.Chunks.tally c.args.access.now) (g.C.Chunks.tally c.loop-coord.access)
+    (subst (λ (x : List (List ℕ)). TallySoFar (λ coord. g.C.Chunks.weight c.args.store.now (key_at c.args.info.now coord)) (region_tally (g.C.Chunks.weight c.args.store.now) c.args.info.now c.args.region.now.lo c.args.region.now.hi) x (g.C.Chunks.tally c.args.access.now) (g.C.Chunks.tally c.loop-coord.access)) e c.loop-coord.invariant.called)
 
 pub returns-in_err-read_part-clause-steady : goal.returns-in_err-read_part-clause-steady
 returns-in_err-read_part-clause-steady g c steady = steady_then (IsChunkKey c.args.info.now c.args.region.now.lo c.args.region.now.hi) steady (steps_then c.loop-coord.invariant.step.2 c.read_part.ensures.step)

@@ -1,8 +1,9 @@
 use Rattle.std.proofs.Common.{◌≡◌, List, ℕ, length, ap, refl, [], ◌∷◌, Contains, sym, ◌∙◌, subst, inl, inr, ◌⊎◌}
 use Rattle.std.proofs.lemmas.Result.{err_from_is_err_and}
 use Rattle.cu_region.specs.Writing.{RegionPut, StoresChunk}
-use Rattle.cu_region.specs.Calls.{chunks_met}
-use Rattle.cu_region.proofs.Calls.{StepsSoFar, steps_none_yet, steps_one_more, steps_most, steps_made}
+use Rattle.std.specs.Prelude.{sum_by}
+use Rattle.cu_region.specs.Calls.{chunks_met, region_tally}
+use Rattle.cu_region.proofs.Calls.{StepsSoFar, steps_none_yet, steps_one_more, steps_most, steps_made, TallySoFar, tally_none_yet, tally_one_more, tally_all}
 use Rattle.cu_region.proofs.SteadyKeys.{first_contains, rest_contains, none_contained}
 use Rattle.cu_region.proofs.StoredWrites.{stored_more, late_own_then, write_fault_more}
 use Rattle.cu_store.proofs.StaysOpen.{open_same, open_then}
@@ -21,6 +22,7 @@ loop-coord-init g c =
       open_ = open_same (g.C.Chunks.may_get c.args.store.now c.args.access.now) c.requires.belongs;
       got = λ coord meets. inl (subst (λ (x : List (List ℕ)). Contains x coord) (sym e) ((c.cover-coord-items.ensures.exactly coord).1 meets));
       stored = λ premise coord meets. inl (subst (λ (x : List (List ℕ)). Contains x coord) (sym e) ((c.cover-coord-items.ensures.exactly coord).1 meets));
+      called = tally_none_yet (λ coord. g.C.Chunks.weight c.args.store.now (key_at c.args.info.now coord)) (region_tally (g.C.Chunks.weight c.args.store.now) c.args.info.now c.args.region.now.lo c.args.region.now.hi) c.into_iter-coord-iterator.result (g.C.Chunks.tally c.args.access.now) (ap (sum_by (λ coord. g.C.Chunks.weight c.args.store.now (key_at c.args.info.now coord))) (e ∙ c.cover-coord-items.ensures.chunks));
     }
 
 pub write_part-requires-clause-part : goal.write_part-requires-clause-part
@@ -50,6 +52,8 @@ loop-coord-preserved g c =
           let mid = late_own_then c.args.info.now c.args.region.now.lo c.args.region.now.hi c.args.input.now c.requires.coordinates premise c.loop-coord.invariant.step.2 in
           stored_more c.args.info.now c.args.region.now.lo c.args.region.now.hi c.args.input.now c.requires.coordinates c.in-Some.coord c.next.new.self mid c.write_part.ensures.step c.in_ok-write_part.ensures.stored
           (λ coord m. subst (λ (x : List (List ℕ)). Contains x coord ⊎ StoresChunk c.args.info.now c.args.region.now.lo c.args.region.now.hi c.args.input.now (g.C.Chunks.shown c.loop-coord.access).held coord) e (c.loop-coord.invariant.stored premise coord m));
+      called = tally_one_more (λ coord. g.C.Chunks.weight c.args.store.now (key_at c.args.info.now coord)) (region_tally (g.C.Chunks.weight c.args.store.now) c.args.info.now c.args.region.now.lo c.args.region.now.hi) c.in-Some.coord c.next.new.self (g.C.Chunks.tally c.args.access.now) (g.C.Chunks.tally c.loop-coord.access) (g.C.Chunks.tally c.write_part.new.access)
+          (subst (λ (x : List (List ℕ)). TallySoFar (λ coord. g.C.Chunks.weight c.args.store.now (key_at c.args.info.now coord)) (region_tally (g.C.Chunks.weight c.args.store.now) c.args.info.now c.args.region.now.lo c.args.region.now.hi) x (g.C.Chunks.tally c.args.access.now) (g.C.Chunks.tally c.loop-coord.access)) e c.loop-coord.invariant.called) c.write_part.ensures.called;
     }
 
 pub returns-in_err-write_part-clause-step : goal.returns-in_err-write_part-clause-step
@@ -67,6 +71,12 @@ returns-clause-calls_all g c =
     let e : c.loop-coord.coord-iterator ≡ [] = c.in-None.ensures.steps.0 in
     steps_made (RegionPut c.args.info.now c.args.region.now.lo c.args.region.now.hi c.args.input.now) (chunks_met c.args.info.now.layout.grid c.args.region.now.lo c.args.region.now.hi) (g.C.Chunks.shown c.args.access.now) (g.C.Chunks.shown c.loop-coord.access)
     (subst (λ (x : List (List ℕ)). StepsSoFar (RegionPut c.args.info.now c.args.region.now.lo c.args.region.now.hi c.args.input.now) (chunks_met c.args.info.now.layout.grid c.args.region.now.lo c.args.region.now.hi) (length x) (g.C.Chunks.shown c.args.access.now) (g.C.Chunks.shown c.loop-coord.access)) e c.loop-coord.invariant.step)
+
+pub returns-clause-called : goal.returns-clause-called
+returns-clause-called g c =
+    let e : c.loop-coord.coord-iterator ≡ [] = c.in-None.ensures.steps.0 in
+    tally_all (λ coord. g.C.Chunks.weight c.args.store.now (key_at c.args.info.now coord)) (region_tally (g.C.Chunks.weight c.args.store.now) c.args.info.now c.args.region.now.lo c.args.region.now.hi) (g.C.Chunks.tally c.args.access.now) (g.C.Chunks.tally c.loop-coord.access)
+    (subst (λ (x : List (List ℕ)). TallySoFar (λ coord. g.C.Chunks.weight c.args.store.now (key_at c.args.info.now coord)) (region_tally (g.C.Chunks.weight c.args.store.now) c.args.info.now c.args.region.now.lo c.args.region.now.hi) x (g.C.Chunks.tally c.args.access.now) (g.C.Chunks.tally c.loop-coord.access)) e c.loop-coord.invariant.called)
 
 pub returns-in_err-write_part-clause-cause : goal.returns-in_err-write_part-clause-cause
 returns-in_err-write_part-clause-cause g c =

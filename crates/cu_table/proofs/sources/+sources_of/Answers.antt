@@ -38,7 +38,8 @@ loop-place-preserved level c =
       | in-Complete w ↦
           subst (TellsBefore t counts (c.loop-place.place + 1)) (sym w.found-is)
           (one_more t c.array.ensures.sound counts c.loop-place.place c.loop-place.found c.loop-place.invariant (subst (TellsOf t counts (fetched_at t c.loop-place.place)) w.in-Complete.is own))
-      | in-Partial w ↦ subst (TellsBefore t counts (c.loop-place.place + 1)) (sym w.found-is) (one_partial t c.array.ensures.sound counts c.loop-place.place)
+      | in-Partial w ↦ subst (TellsBefore t counts (c.loop-place.place + 1)) (sym w.found-is)
+          (one_partial t c.array.ensures.sound counts c.loop-place.place (subst (TellsOf t counts (fetched_at t c.loop-place.place)) w.in-Partial.is own))
     ]
 
 pub returns-in-Awaited : goal.returns-in-Awaited

@@ -1,4 +1,4 @@
-use Rattle.std.proofs.Common.{◌≡◌, ◌<◌, ◌≤◌, ◌*◌, ℕ, List, [], ◌∷◌, length, Some, refl, sym, ap, ◌∙◌, subst, arith}
+use Rattle.std.proofs.Common.{◌≡◌, ◌<◌, ◌≤◌, ◌*◌, ℕ, List, [], length, Some, refl, sym, ap, ◌∙◌, subst, arith}
 use Rattle.std.specs.Prelude.{slice_index_or, OnOk}
 use Rattle.cu_num.specs.Dtype.{size_of}
 use Rattle.cu_num.specs.declared.types.Dtype.{Dtype}
@@ -26,6 +26,8 @@ use Rattle.cu_task.proofs.CopyTask.{copy_walk}
 use Rattle.cu_task.proofs.Inside.{own_fault, own_key}
 use Rattle.cu_task.proofs.InputReads.{on_ok_then, on_err_more, still_first}
 use Rattle.cu_task.proofs.TaskRegions.{copied, scratch_read}
+use Rattle.cu_store.specs.Chunks.{Adds}
+use Rattle.cu_task.specs.Calls.{weight_in}
 use Rattle.cu_task.proofs.copies.copy_region.Goals as goal
 
 abbrev none : Walk
@@ -84,6 +86,11 @@ pub returns-clause-all : goal.returns-clause-all
 returns-clause-all g c =
     let own = copy_walk c.args.task.now.plan c.args.task.now.op c.args.task.now.number c.input_walk-walk.result c.input_walk-walk.ensures.sound c.args.task.now.operation c.requires.copy c.input_walk-walk.ensures.walk in
     subst (λ (n : ℕ). OnOk c.read_walk.result (Made n (g.C.Chunks.shown c.args.access.now).calls (g.C.Chunks.shown c.read_walk.new.access).calls)) (sym own.calls) c.read_walk.ensures.all
+
+pub returns-clause-called : goal.returns-clause-called
+returns-clause-called g c =
+    let own = copy_walk c.args.task.now.plan c.args.task.now.op c.args.task.now.number c.input_walk-walk.result c.input_walk-walk.ensures.sound c.args.task.now.operation c.requires.copy c.input_walk-walk.ensures.walk in
+    subst (λ (n : ℕ). OnOk c.read_walk.result (Adds n (g.C.Chunks.tally c.args.access.now) (g.C.Chunks.tally c.read_walk.new.access))) (sym (own.tally (weight_in (g.C.Chunks.weight c.args.store.now) c.args.task.now.plan.arrays))) c.read_walk.ensures.called
 
 pub returns-clause-cause : goal.returns-clause-cause
 returns-clause-cause g c =

@@ -1,13 +1,11 @@
-use Rattle.std.proofs.Common.{◌≡◌, ℕ, ◌+◌, ◌*◌, ◌<◌, List, ◌++◌, length, drop, set, get_or, sym, ap, ◌∙◌, subst, arith}
+use Rattle.std.proofs.Common.{◌≡◌, ℕ, ◌*◌, List, ◌++◌, drop, sym, ap, ◌∙◌, subst, arith}
 use Rattle.std.proofs.lemmas.List.{take-append-drop}
 use Rattle.cu_num.specs.Dtype.{size_of}
 use Rattle.cu_num.specs.declared.types.Dtype.{Dtype}
 use Rattle.cu_num.specs.declared.folds.FoldKind.{FoldKind}
 use Rattle.cu_shape.specs.Index.{product}
-use Rattle.cu_reduce.specs.Kinds.{Accumulates}
 use Rattle.cu_op.specs.Arrays.{type_at}
 use Rattle.cu_op.specs.TaskView.{task_op}
-use Rattle.cu_op.specs.declared.operation.Op.{Op}
 use Rattle.cu_op.proofs.TaskCells.{region_lengths}
 use Rattle.cu_task.specs.ByLabels.{fold_by_labels, IsFoldByLabels}
 use Rattle.cu_task.specs.Inputs.{walk_room}

@@ -7,7 +7,7 @@ use Rattle.cu_op.proofs.CellsOfTasks.{coordinates_small}
 use Rattle.cu_op.proofs.Plans.{grid_ok}
 use Rattle.cu_region.specs.Reading.{IsChunkKey}
 use Rattle.cu_region.specs.Steady.{IsSteady, HoldSame}
-use Rattle.cu_task.proofs.InputReads.{reads_before, walk_key, walk_fault, on_err_more, on_ok_then}
+use Rattle.cu_task.proofs.InputReads.{reads_before, walk_key, walk_fault, on_err_more, on_ok_then, walk_tally}
 use Rattle.std.specs.Prelude.{OnOk}
 use Rattle.std.proofs.lemmas.List.{length-map}
 use Rattle.cu_store.specs.Steps.{NoChange, Steps}
@@ -16,6 +16,7 @@ use Rattle.cu_op.specs.Walks.{walk_cells}
 use Rattle.cu_op.specs.Chunks.{cell}
 use Rattle.cu_region.specs.Calls.{Made, chunks_met}
 use Rattle.cu_op.specs.declared.walks.Walk.{Walk}
+use Rattle.cu_store.specs.Chunks.{Adds}
 use Rattle.cu_task.proofs.inputs.read_walk.Goals as goal
 
 pub read_region_of-requires-clause-coordinates : goal.read_region_of-requires-clause-coordinates
@@ -86,3 +87,8 @@ pub returns-clause-all : goal.returns-clause-all
 returns-clause-all g c =
     let calls = walk_calls c.args.task.now.plan.arrays c.args.walk.now c.array.result.now c.array.ensures.array in
     subst (λ (n : ℕ). OnOk c.read_region_of.result (Made n (g.C.Chunks.shown c.args.access.now).calls (g.C.Chunks.shown c.read_region_of.new.access).calls)) calls c.read_region_of.ensures.calls_all
+
+pub returns-clause-called : goal.returns-clause-called
+returns-clause-called g c =
+    let tally = walk_tally (g.C.Chunks.weight c.args.store.now) c.args.task.now.plan.arrays c.args.walk.now c.array.result.now c.array.ensures.array in
+    subst (λ (n : ℕ). OnOk c.read_region_of.result (Adds n (g.C.Chunks.tally c.args.access.now) (g.C.Chunks.tally c.read_region_of.new.access))) tally c.read_region_of.ensures.called

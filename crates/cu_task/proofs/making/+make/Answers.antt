@@ -16,16 +16,18 @@ use Rattle.cu_op.specs.declared.operation.Op.{Op}
 use Rattle.cu_op.specs.declared.walks.Walk.{Walk}
 use Rattle.cu_op.proofs.TaskCells.{fit_of}
 use Rattle.cu_region.specs.Calls.{Made}
-use Rattle.cu_task.specs.Calls.{chunk_calls}
+use Rattle.cu_store.specs.Chunks.{Adds}
+use Rattle.cu_task.specs.Calls.{chunk_calls, chunk_tally}
 use Rattle.cu_task.specs.Inputs.{room_of_walks, walk_room, HasRegions, IsPullOf, IsWalkKey}
-use Rattle.cu_task.specs.OfTask.{calls_for_walk, calls_for_walks, held_inputs, kernel_words, walks_from, work_bytes, HasMade, HasWalk}
+use Rattle.cu_task.specs.OfTask.{calls_for_walk, calls_for_walks, cell_weight, held_inputs, kernel_words, tally_for_walk, tally_for_walks, walks_from, weight_of_walk, work_bytes, HasMade, HasWalk}
 use Rattle.cu_task.specs.Task.{IsComputing, IsCopy, IsTaskKey}
 use Rattle.cu_task.proofs.CopyTask.{copies_whole}
-use Rattle.cu_task.proofs.InputReads.{all_made, on_err_more, on_ok_then, regions_more, still_after, still_fewer}
-use Rattle.cu_task.proofs.Inside.{computed_calls, own_fault, own_key, own_sure, read_has, read_of, scratch_of_work, steps_of_own, stored_calls}
+use Rattle.cu_task.proofs.InputReads.{all_added, all_made, on_err_more, on_ok_then, regions_more, still_after, still_fewer}
+use Rattle.cu_task.proofs.Inside.{computed_calls, computed_tally, own_fault, own_key, own_sure, read_has, read_of, scratch_of_work, steps_of_own, stored_calls, stored_tally}
 use Rattle.cu_task.proofs.JobViews.{job_is_view}
 use Rattle.cu_task.proofs.MadeParts.{alike_made, at_end, later_fault, next_walk}
 use Rattle.cu_task.proofs.PullTask.{of_pull}
+use Rattle.cu_task.proofs.StripTask.{fold_computes, fold_stores, folded_calls, folded_made, folded_tally, map_computes}
 use Rattle.cu_task.proofs.TaskKinds.{computing, none_stored}
 use Rattle.cu_task.proofs.TaskRegions.{scratch_read}
 use Rattle.cu_task.proofs.TaskRooms.{kept_computing}
@@ -100,6 +102,9 @@ make_result-returns-in-Pull-clause-room g t c = record {
 pub make_result-returns-in-Pull-clause-all : goal.make_result-returns-in-Pull-clause-all
 make_result-returns-in-Pull-clause-all g t c sure = c.pull_result.ensures.all (own_sure c.args.task.now.plan c.args.task.now.op sure)
 
+pub make_result-returns-in-Pull-clause-called : goal.make_result-returns-in-Pull-clause-called
+make_result-returns-in-Pull-clause-called g t c sure = c.pull_result.ensures.called (own_sure c.args.task.now.plan c.args.task.now.op sure)
+
 pub make_result-returns-in-Copy-clause-made : goal.make_result-returns-in-Copy-clause-made
 make_result-returns-in-Copy-clause-made g t c held still =
     let copy : IsCopy (op_of c.args.task.now.plan c.args.task.now.op) = subst IsCopy (sym (sym c.operation.ensures.operation ∙ c.in-Copy.is)) tt in
@@ -124,6 +129,9 @@ make_result-returns-in-Copy-clause-room g t c = record {
 
 pub make_result-returns-in-Copy-clause-all : goal.make_result-returns-in-Copy-clause-all
 make_result-returns-in-Copy-clause-all g t c _ = c.copy_region.ensures.all
+
+pub make_result-returns-in-Copy-clause-called : goal.make_result-returns-in-Copy-clause-called
+make_result-returns-in-Copy-clause-called g t c _ = c.copy_region.ensures.called
 
 -- ---- compute_result
 
@@ -172,6 +180,12 @@ compute_result-returns-clause-all g t c sure =
     let calls = computed_calls (chunk_calls c.args.task.now.plan c.args.task.now.op) c.args.task.now.plan.arrays (op_of c.args.task.now.plan c.args.task.now.op) c.args.task.now.number c.requires.computing in
     subst (λ (n : ℕ). Made n (g.C.Chunks.shown c.args.access.now).calls (g.C.Chunks.shown c.read_inputs.new.access).calls) (sym calls) (c.in_ok-read_inputs.ensures.all sure)
 
+pub compute_result-returns-clause-called : goal.compute_result-returns-clause-called
+compute_result-returns-clause-called g t c sure =
+    let weight = cell_weight (g.C.Chunks.weight c.args.store.now) c.args.task.now in
+    let tally = computed_tally weight (chunk_tally weight c.args.task.now.plan c.args.task.now.op) c.args.task.now.plan.arrays (op_of c.args.task.now.plan c.args.task.now.op) c.args.task.now.number c.requires.computing in
+    subst (λ (n : ℕ). Adds n (g.C.Chunks.tally c.args.access.now) (g.C.Chunks.tally c.read_inputs.new.access)) (sym tally) (c.in_ok-read_inputs.ensures.called sure)
+
 pub compute_result-returns-in_err-read_inputs-clause-room : goal.compute_result-returns-in_err-read_inputs-clause-room
 compute_result-returns-in_err-read_inputs-clause-room g t c = record {
   scratch = subst (λ (n : ℕ). work_bytes c.args.task.now ≤ n) (sym c.read_inputs.auto.scratch) c.requires.room.scratch;
@@ -195,8 +209,117 @@ compute_result-returns-in_err-read_inputs-clause-elements g t c = let p = err_fr
 pub compute_result-returns-in_err-read_inputs-clause-all : goal.compute_result-returns-in_err-read_inputs-clause-all
 compute_result-returns-in_err-read_inputs-clause-all g t c sure = let p = err_from_is_err_and c.from_residual.result c.from_residual.ensures.1 in rw p.1 tt
 
+pub compute_result-returns-in_err-read_inputs-clause-called : goal.compute_result-returns-in_err-read_inputs-clause-called
+compute_result-returns-in_err-read_inputs-clause-called g t c sure = let p = err_from_is_err_and c.from_residual.result c.from_residual.ensures.1 in rw p.1 tt
+
 pub compute_result-returns-in_err-read_inputs-clause-cause : goal.compute_result-returns-in_err-read_inputs-clause-cause
 compute_result-returns-in_err-read_inputs-clause-cause g t c = let p = err_from_is_err_and c.from_residual.result c.from_residual.ensures.1 in rw (p.1, p.2) c.in_err-read_inputs.ensures.cause
+
+-- ---- fold_by_strips
+
+pub fold_by_strips-read_inputs-requires : goal.fold_by_strips-read_inputs-requires
+fold_by_strips-read_inputs-requires g t c κs sub =
+    let map = c.args.map.now in
+    let st = c.requires.map.inside in
+    let before = st.before in
+    let own = kept_computing map.plan.arrays (op_of map.plan map.op) map.number (map_computes (op_of map.plan map.op) c.requires.map.map) in
+    let kept = c.kept_bytes.ensures in
+    let front = c.split_at_mut-inputs.ensures.front_len in
+    let back = c.split_at_mut-inputs.ensures.back_len in
+    let room = c.requires.room.scratch in
+    let fits = st.scratch in
+    let words = c.requires.room.words in
+    let own_words = st.words in (
+      omega (arith, c.decreases, before),
+      (
+        search rules,
+        (
+          search rules,
+          (
+            search rules,
+            (
+              c.requires.belongs,
+              (
+                (λ key here. c.requires.may key (st.keys key here)),
+                (omega arith, (omega (arith, own, kept, front), (omega (arith, kept, back, room, fits), omega (arith, words, own_words)))),
+              ),
+            ),
+          ),
+        ),
+      ),
+    )
+
+pub fold_by_strips-fold_map-requires-clause-inputs : goal.fold_by_strips-fold_map-requires-clause-inputs
+fold_by_strips-fold_map-requires-clause-inputs g t c =
+    let map = c.args.map.now in
+    let own = kept_computing map.plan.arrays (op_of map.plan map.op) map.number (map_computes (op_of map.plan map.op) c.requires.map.map) in
+    c.read_inputs.auto.inputs ∙ c.split_at_mut-inputs.ensures.front_len ∙ c.kept_bytes.ensures ∙ own
+
+pub fold_by_strips-fold_map-requires-clause-strip : goal.fold_by_strips-fold_map-requires-clause-strip
+fold_by_strips-fold_map-requires-clause-strip g t c =
+    let task = c.args.task.now in
+    c.requires.room.inputs ∙ kept_computing task.plan.arrays (op_of task.plan task.op) task.number (fold_computes (op_of task.plan task.op) c.requires.map.fold)
+
+pub fold_by_strips-fold_map-requires-clause-words : goal.fold_by_strips-fold_map-requires-clause-words
+fold_by_strips-fold_map-requires-clause-words g t c =
+    let own = steps_of_own c.args.map.now.plan c.args.map.now.op in
+    let most = c.requires.room.words in
+    let fewer = c.requires.map.inside.words in
+    let long = c.read_inputs.auto.words in
+    omega (arith, own, most, fewer, long)
+
+pub fold_by_strips-returns-clause-made : goal.fold_by_strips-returns-clause-made
+fold_by_strips-returns-clause-made g t c held still =
+    let task = c.args.task.now in
+    let map = c.args.map.now in
+    let fewer = still_fewer (IsTaskKey task.plan task.op task.number) (IsTaskKey map.plan map.op map.number) held (g.C.Chunks.shown c.args.access.now) c.requires.map.inside.keys still in
+    record {
+      output = folded_made task map c.requires.map held _ _ (c.in_ok-read_inputs.ensures.read held fewer) c.fold_map.ensures.values;
+      values = λ array is. absurd (none_stored array (fold_stores (op_of task.plan task.op) c.requires.map.fold ∙ is));
+    }
+
+pub fold_by_strips-returns-clause-elements : goal.fold_by_strips-returns-clause-elements
+fold_by_strips-returns-clause-elements g t c = record {
+  output = c.fold_map.ensures.elements;
+  values = λ array is. absurd (none_stored array (fold_stores (op_of c.args.task.now.plan c.args.task.now.op) c.requires.map.fold ∙ is));
+}
+
+pub fold_by_strips-returns-clause-step : goal.fold_by_strips-returns-clause-step
+fold_by_strips-returns-clause-step g t c =
+    subst (λ (n : ℕ). Steps NoChange 0 n (g.C.Chunks.shown c.args.access.now) (g.C.Chunks.shown c.read_inputs.new.access))
+    (sym (folded_calls c.args.task.now c.args.map.now c.requires.map)) c.read_inputs.ensures.step
+
+pub fold_by_strips-returns-clause-all : goal.fold_by_strips-returns-clause-all
+fold_by_strips-returns-clause-all g t c sure =
+    subst (λ (n : ℕ). Made n (g.C.Chunks.shown c.args.access.now).calls (g.C.Chunks.shown c.read_inputs.new.access).calls)
+    (sym (folded_calls c.args.task.now c.args.map.now c.requires.map)) (c.in_ok-read_inputs.ensures.all (c.requires.map.inside.sure sure))
+
+pub fold_by_strips-returns-clause-called : goal.fold_by_strips-returns-clause-called
+fold_by_strips-returns-clause-called g t c sure =
+    subst (λ (n : ℕ). Adds n (g.C.Chunks.tally c.args.access.now) (g.C.Chunks.tally c.read_inputs.new.access))
+    (sym (folded_tally c.args.task.now c.args.map.now c.requires.map (g.C.Chunks.weight c.args.store.now))) (c.in_ok-read_inputs.ensures.called (c.requires.map.inside.sure sure))
+
+pub fold_by_strips-returns-in_err-read_inputs-clause-step : goal.fold_by_strips-returns-in_err-read_inputs-clause-step
+fold_by_strips-returns-in_err-read_inputs-clause-step g t c =
+    subst (λ (n : ℕ). Steps NoChange 0 n (g.C.Chunks.shown c.args.access.now) (g.C.Chunks.shown c.read_inputs.new.access))
+    (sym (folded_calls c.args.task.now c.args.map.now c.requires.map)) c.read_inputs.ensures.step
+
+pub fold_by_strips-returns-in_err-read_inputs-clause-made : goal.fold_by_strips-returns-in_err-read_inputs-clause-made
+fold_by_strips-returns-in_err-read_inputs-clause-made g t c held still = let p = err_from_is_err_and c.from_residual.result c.from_residual.ensures.1 in rw p.1 tt
+
+pub fold_by_strips-returns-in_err-read_inputs-clause-elements : goal.fold_by_strips-returns-in_err-read_inputs-clause-elements
+fold_by_strips-returns-in_err-read_inputs-clause-elements g t c = let p = err_from_is_err_and c.from_residual.result c.from_residual.ensures.1 in rw p.1 tt
+
+pub fold_by_strips-returns-in_err-read_inputs-clause-all : goal.fold_by_strips-returns-in_err-read_inputs-clause-all
+fold_by_strips-returns-in_err-read_inputs-clause-all g t c sure = let p = err_from_is_err_and c.from_residual.result c.from_residual.ensures.1 in rw p.1 tt
+
+pub fold_by_strips-returns-in_err-read_inputs-clause-called : goal.fold_by_strips-returns-in_err-read_inputs-clause-called
+fold_by_strips-returns-in_err-read_inputs-clause-called g t c sure = let p = err_from_is_err_and c.from_residual.result c.from_residual.ensures.1 in rw p.1 tt
+
+pub fold_by_strips-returns-in_err-read_inputs-clause-cause : goal.fold_by_strips-returns-in_err-read_inputs-clause-cause
+fold_by_strips-returns-in_err-read_inputs-clause-cause g t c =
+    let p = err_from_is_err_and c.from_residual.result c.from_residual.ensures.1 in
+    rw (p.1, p.2) (c.requires.map.inside.faults (g.C.Chunks.shown c.args.access.now) (g.C.Chunks.shown c.read_inputs.new.access) _ c.in_err-read_inputs.ensures.cause)
 
 -- ---- read_inputs
 
@@ -209,6 +332,13 @@ read_inputs-returns-then-place-input_walks-clause-read g t c held still =
 pub read_inputs-returns-then-place-input_walks-clause-step : goal.read_inputs-returns-then-place-input_walks-clause-step
 read_inputs-returns-then-place-input_walks-clause-step g t c =
     steps_wider (λ key value none. none) (omega arith) (omega arith) (steps_same NoChange (g.C.Chunks.shown c.args.access.now))
+
+pub read_inputs-returns-then-place-input_walks-clause-called : goal.read_inputs-returns-then-place-input_walks-clause-called
+read_inputs-returns-then-place-input_walks-clause-called g t c sure =
+    let walks = input_walks c.args.task.now.plan.arrays (op_of c.args.task.now.plan c.args.task.now.op) c.args.task.now.number in
+    let none : drop c.args.place walks ≡ [] = at_end walks c.args.place (search rules) in
+    let nothing : tally_for_walks (g.C.Chunks.weight c.args.store.now) c.args.task.now (drop c.args.place walks) ≡ 0 = ap (tally_for_walks (g.C.Chunks.weight c.args.store.now) c.args.task.now) none in
+    omega (arith, nothing)
 
 pub read_inputs-read_input-requires : goal.read_inputs-read_input-requires
 read_inputs-read_input-requires g t c κs sub =
@@ -278,6 +408,14 @@ next_calls t place below =
     ap (calls_for_walks t) (next_walk walks place (walk 0 [] []) below)
     ∙ sum_by-append (chunk_calls t.plan t.op) (walk_cells t.plan.arrays (walk_at t place)) (cells_of_walks t.plan.arrays (drop (place + 1) walks))
 
+-- and what they add to a tally
+next_tally : (weight : List ℕ → ℕ) (t : TaskView) (place : ℕ) → place < length (input_walks t.plan.arrays (task_op t) t.number)
+    → tally_for_walks weight t (walks_from t place) ≡ tally_for_walk weight t (walk_at t place) + tally_for_walks weight t (walks_from t (place + 1))
+next_tally weight t place below =
+    let walks = input_walks t.plan.arrays (task_op t) t.number in
+    ap (tally_for_walks weight t) (next_walk walks place (walk 0 [] []) below)
+    ∙ sum_by-append (chunk_tally (cell_weight weight t) t.plan t.op) (walk_cells t.plan.arrays (walk_at t place)) (cells_of_walks t.plan.arrays (drop (place + 1) walks))
+
 pub read_inputs-returns-clause-step : goal.read_inputs-returns-clause-step
 read_inputs-returns-clause-step g t c =
     let calls = next_calls c.args.task.now c.args.place (search rules) in
@@ -292,6 +430,17 @@ read_inputs-returns-clause-all g t c sure =
     (all_made (g.C.Chunks.shown c.args.access.now).calls (g.C.Chunks.shown c.read_input.new.access).calls (g.C.Chunks.shown c.read_inputs.new.access).calls
     (calls_for_walk task (walk_at task c.args.place)) (calls_for_walks task (walks_from task (c.args.place + 1))) (c.in_ok-read_input.ensures.all sure) made))
     (c.read_inputs.ensures.all sure)
+
+pub read_inputs-returns-clause-called : goal.read_inputs-returns-clause-called
+read_inputs-returns-clause-called g t c sure =
+    let task = c.args.task.now in
+    let weight = g.C.Chunks.weight c.args.store.now in
+    let tally = next_tally weight task c.args.place (search rules) in
+    on_ok_then c.read_inputs.result
+    (λ called. subst (λ (n : ℕ). Adds n (g.C.Chunks.tally c.args.access.now) (g.C.Chunks.tally c.read_inputs.new.access)) (sym tally)
+    (all_added (g.C.Chunks.tally c.args.access.now) (g.C.Chunks.tally c.read_input.new.access) (g.C.Chunks.tally c.read_inputs.new.access)
+    (tally_for_walk weight task (walk_at task c.args.place)) (tally_for_walks weight task (walks_from task (c.args.place + 1))) (c.in_ok-read_input.ensures.called sure) called))
+    (c.read_inputs.ensures.called sure)
 
 pub read_inputs-returns-clause-cause : goal.read_inputs-returns-clause-cause
 read_inputs-returns-clause-cause g t c =
@@ -315,6 +464,9 @@ read_inputs-returns-in_err-read_input-clause-read g t c held still = let p = err
 
 pub read_inputs-returns-in_err-read_input-clause-all : goal.read_inputs-returns-in_err-read_input-clause-all
 read_inputs-returns-in_err-read_input-clause-all g t c sure = let p = err_from_is_err_and c.from_residual.result c.from_residual.ensures.1 in rw p.1 tt
+
+pub read_inputs-returns-in_err-read_input-clause-called : goal.read_inputs-returns-in_err-read_input-clause-called
+read_inputs-returns-in_err-read_input-clause-called g t c sure = let p = err_from_is_err_and c.from_residual.result c.from_residual.ensures.1 in rw p.1 tt
 
 pub read_inputs-returns-in_err-read_input-clause-cause : goal.read_inputs-returns-in_err-read_input-clause-cause
 read_inputs-returns-in_err-read_input-clause-cause g t c = let p = err_from_is_err_and c.from_residual.result c.from_residual.ensures.1 in rw (p.1, p.2) c.in_err-read_input.ensures.cause
@@ -365,6 +517,10 @@ as_calls : (t : TaskView) (s : Sound t.plan) (place : ℕ) (w : Walk) → w ≡ 
     → length (walk_cells t.plan.arrays w) ≡ calls_for_walk t (walk_at t place)
 as_calls t s place w same as_is = ap (λ (v : Walk). length (walk_cells t.plan.arrays v)) same ∙ sym (stored_calls t.plan s t.op (walk_at t place) as_is)
 
+as_tally : (weight : List ℕ → ℕ) (t : TaskView) (s : Sound t.plan) (place : ℕ) (w : Walk) → w ≡ walk_at t place → IsReadAsIs t.plan.arrays (walk_at t place)
+    → weight_of_walk weight t w ≡ tally_for_walk weight t (walk_at t place)
+as_tally weight t s place w same as_is = ap (weight_of_walk weight t) same ∙ sym (stored_tally t.plan s (cell_weight weight t) t.op (walk_at t place) as_is)
+
 pub read_input-returns-in-None-clause-step : goal.read_input-returns-in-None-clause-step
 read_input-returns-in-None-clause-step g t c =
     let calls = as_calls c.args.task.now c.input_walk-walk.ensures.sound c.args.place c.input_walk-walk.result c.input_walk-walk.ensures.walk (c.inner_task.ensures.none c.in-None.is) in
@@ -374,6 +530,11 @@ pub read_input-returns-in-None-clause-all : goal.read_input-returns-in-None-clau
 read_input-returns-in-None-clause-all g t c sure =
     let calls = as_calls c.args.task.now c.input_walk-walk.ensures.sound c.args.place c.input_walk-walk.result c.input_walk-walk.ensures.walk (c.inner_task.ensures.none c.in-None.is) in
     subst (λ (n : ℕ). OnOk c.read_walk.result (Made n (g.C.Chunks.shown c.args.access.now).calls (g.C.Chunks.shown c.read_walk.new.access).calls)) calls c.read_walk.ensures.all
+
+pub read_input-returns-in-None-clause-called : goal.read_input-returns-in-None-clause-called
+read_input-returns-in-None-clause-called g t c sure =
+    let tally = as_tally (g.C.Chunks.weight c.args.store.now) c.args.task.now c.input_walk-walk.ensures.sound c.args.place c.input_walk-walk.result c.input_walk-walk.ensures.walk (c.inner_task.ensures.none c.in-None.is) in
+    subst (λ (n : ℕ). OnOk c.read_walk.result (Adds n (g.C.Chunks.tally c.args.access.now) (g.C.Chunks.tally c.read_walk.new.access))) tally c.read_walk.ensures.called
 
 pub read_input-returns-in-None-clause-cause : goal.read_input-returns-in-None-clause-cause
 read_input-returns-in-None-clause-cause g t c =
@@ -430,6 +591,10 @@ read_input-returns-in-Some-clause-step g t c =
 pub read_input-returns-in-Some-clause-all : goal.read_input-returns-in-Some-clause-all
 read_input-returns-in-Some-clause-all g t c sure =
     subst (λ (n : ℕ). OnOk c.make_inner.result (Made n (g.C.Chunks.shown c.args.access.now).calls (g.C.Chunks.shown c.make_inner.new.access).calls)) c.in-Some.ensures.made.calls (c.make_inner.ensures.all (c.in-Some.ensures.made.sure sure))
+
+pub read_input-returns-in-Some-clause-called : goal.read_input-returns-in-Some-clause-called
+read_input-returns-in-Some-clause-called g t c sure =
+    subst (λ (n : ℕ). OnOk c.make_inner.result (Adds n (g.C.Chunks.tally c.args.access.now) (g.C.Chunks.tally c.make_inner.new.access))) (c.in-Some.ensures.made.tally (g.C.Chunks.weight c.args.store.now)) (c.make_inner.ensures.called (c.in-Some.ensures.made.sure sure))
 
 pub read_input-returns-in-Some-clause-cause : goal.read_input-returns-in-Some-clause-cause
 read_input-returns-in-Some-clause-cause g t c =

@@ -8,6 +8,9 @@ decreases-make_result g l = 16 * l.task.now.op + 13
 abbrev pub decreases-compute_result : goal.decreases-compute_result
 decreases-compute_result g l = 16 * l.task.now.op + 12
 
+abbrev pub decreases-fold_by_strips : goal.decreases-fold_by_strips
+decreases-fold_by_strips g l = 16 * l.task.now.op + 12
+
 abbrev pub decreases-read_inputs : goal.decreases-read_inputs
 decreases-read_inputs g l = 16 * l.task.now.op + 3 + (8 - l.place)
 

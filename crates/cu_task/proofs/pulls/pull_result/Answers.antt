@@ -2,8 +2,9 @@ use Rattle.std.proofs.Common.{ℕ, ◌∙◌, sym, subst, arith, None, Some}
 use Rattle.std.specs.Prelude.{slice_index}
 use Rattle.cu_store.specs.Steps.{NoChange, Steps}
 use Rattle.cu_op.specs.Schedule.{op_of}
-use Rattle.cu_task.specs.Calls.{chunk_calls, read_calls}
-use Rattle.cu_task.specs.ViewJobs.{view_task_of}
+use Rattle.cu_store.specs.Chunks.{Adds}
+use Rattle.cu_task.specs.Calls.{chunk_calls, chunk_tally, read_calls}
+use Rattle.cu_task.specs.ViewJobs.{job_weight, view_task_of}
 use Rattle.cu_task.proofs.InputReads.{on_ok_then, on_err_more}
 use Rattle.cu_task.proofs.JobViews.{fitting, of_job}
 use Rattle.cu_task.proofs.PullTask.{source_key, has_values, has_elements, known_sources, view_fault, sure_all, made_from}
@@ -51,6 +52,14 @@ returns-clause-all g c sure =
     let step = subst (λ (n : ℕ). Steps NoChange 0 n old new) (sym (o.calls (chunk_calls c.args.job.now.task.now.plan c.args.job.now.task.now.op))) c.read_sources.ensures.step in
     on_ok_then c.read_sources.result
     (λ rose. made_from (read_calls c.args.job.now.task.now.plan c.args.job.now.task.now.op c.args.job.now.task.now.number) old new step (sure_all c.args.job.now.pull.now _ _ old.calls new.calls (o.sure sure) (o.calls (chunk_calls c.args.job.now.task.now.plan c.args.job.now.task.now.op)) rose)) c.read_sources.ensures.all
+
+pub returns-clause-called : goal.returns-clause-called
+returns-clause-called g c sure =
+    let o = of_job c.args.job.now c.requires.job in
+    let weight = job_weight (g.C.Chunks.weight c.args.store.now) c.args.job.now in
+    on_ok_then c.read_sources.result
+    (λ called. subst (λ (n : ℕ). Adds n (g.C.Chunks.tally c.args.access.now) (g.C.Chunks.tally c.read_sources.new.access)) (sym (o.tally weight (chunk_tally weight c.args.job.now.task.now.plan c.args.job.now.task.now.op))) called)
+    (c.read_sources.ensures.called (o.sure sure))
 
 pub returns-clause-cause : goal.returns-clause-cause
 returns-clause-cause g c =

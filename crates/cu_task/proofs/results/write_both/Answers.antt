@@ -1,5 +1,7 @@
-use Rattle.std.proofs.Common.{◌≡◌, inl, inr, ℕ, ◌+◌, ◌≤◌, List, Contains, length, refl, sym, ap, ◌∙◌, subst, arith}
-use Rattle.std.specs.Prelude.{OnOk}
+use Rattle.std.proofs.Common.{◌≡◌, inl, inr, ℕ, ◌+◌, List, Contains, length, refl, sym, ap, ◌∙◌, subst, arith}
+use Rattle.std.specs.Prelude.{OnOk, sum_by}
+use Rattle.cu_store.specs.Chunks.{Adds}
+use Rattle.cu_task.specs.Calls.{weight_in}
 use Rattle.cu_store.specs.Steps.{Steps}
 use Rattle.cu_store.proofs.Steps.{steps_then, steps_wider}
 use Rattle.cu_op.specs.Arrays.{array_at, type_at}
@@ -12,9 +14,9 @@ use Rattle.cu_op.proofs.TaskCells.{fit_of}
 use Rattle.cu_region.specs.Calls.{Made}
 use Rattle.cu_region.specs.Writing.{LateIsOwn, RegionPut, StoresRegion, AreElements}
 use Rattle.cu_task.specs.Task.{TaskChange, result_room}
-use Rattle.cu_task.proofs.InputReads.{on_ok_then, all_made}
+use Rattle.cu_task.proofs.InputReads.{on_ok_then, all_added, all_made}
 use Rattle.cu_task.proofs.TaskKinds.{both_written, stored_room}
-use Rattle.cu_task.proofs.TaskRegions.{both_calls, target_written}
+use Rattle.cu_task.proofs.TaskRegions.{both_calls, both_tally, target_written}
 use Rattle.cu_task.proofs.TaskSteps.{carries, puts_cells, late_own, holds_chunk, still_holds, either_array}
 use Rattle.cu_task.specs.Asks.{AllowsRegion, MayReadRegion}
 use Rattle.cu_task.proofs.Allowed.{got_cell, allows_within}
@@ -88,6 +90,20 @@ returns-clause-all g c =
     let calls_both = both_calls c.args.task.now.plan.arrays (op_of c.args.task.now.plan c.args.task.now.op) c.args.task.now.number c.args.array (both_written (op_of c.args.task.now.plan c.args.task.now.op) c.args.array c.requires.stored) in
     let second = subst (λ (a : ℕ). OnOk c.write_array-2.result (Made (length (walk_cells c.args.task.now.plan.arrays (walk a (task_lo c.args.task.now.plan.arrays (op_of c.args.task.now.plan c.args.task.now.op) c.args.task.now.number) (task_hi c.args.task.now.plan.arrays (op_of c.args.task.now.plan c.args.task.now.op) c.args.task.now.number)))) (g.C.Chunks.shown c.write_array.new.access).calls (g.C.Chunks.shown c.write_array-2.new.access).calls)) target c.write_array-2.ensures.all in
     on_ok_then c.write_array-2.result (λ made. subst (λ (n : ℕ). Made n (g.C.Chunks.shown c.args.access.now).calls (g.C.Chunks.shown c.write_array-2.new.access).calls) (sym calls_both) (all_made (g.C.Chunks.shown c.args.access.now).calls (g.C.Chunks.shown c.write_array.new.access).calls (g.C.Chunks.shown c.write_array-2.new.access).calls (length (walk_cells c.args.task.now.plan.arrays (walk c.args.array (task_lo c.args.task.now.plan.arrays (op_of c.args.task.now.plan c.args.task.now.op) c.args.task.now.number) (task_hi c.args.task.now.plan.arrays (op_of c.args.task.now.plan c.args.task.now.op) c.args.task.now.number)))) (length (walk_cells c.args.task.now.plan.arrays (walk (target_of (op_of c.args.task.now.plan c.args.task.now.op)) (task_lo c.args.task.now.plan.arrays (op_of c.args.task.now.plan c.args.task.now.op) c.args.task.now.number) (task_hi c.args.task.now.plan.arrays (op_of c.args.task.now.plan c.args.task.now.op) c.args.task.now.number)))) c.in_ok-write_array.ensures.all made)) second
+
+pub returns-clause-called : goal.returns-clause-called
+returns-clause-called g c =
+    let target : c.target-target.result ≡ (target_of (op_of c.args.task.now.plan c.args.task.now.op)) = c.target-target.ensures ∙ ap target_of c.operation.ensures.operation in
+    let tally = both_tally (weight_in (g.C.Chunks.weight c.args.store.now) c.args.task.now.plan.arrays) c.args.task.now.plan.arrays (op_of c.args.task.now.plan c.args.task.now.op) c.args.task.now.number c.args.array (both_written (op_of c.args.task.now.plan c.args.task.now.op) c.args.array c.requires.stored) in
+    let values = c.in_ok-write_array.ensures.called in
+    let places = subst (λ (a : ℕ). OnOk c.write_array-2.result (Adds (sum_by (weight_in (g.C.Chunks.weight c.args.store.now) c.args.task.now.plan.arrays) (walk_cells c.args.task.now.plan.arrays (walk a (task_lo c.args.task.now.plan.arrays (op_of c.args.task.now.plan c.args.task.now.op) c.args.task.now.number) (task_hi c.args.task.now.plan.arrays (op_of c.args.task.now.plan c.args.task.now.op) c.args.task.now.number)))) (g.C.Chunks.tally c.write_array.new.access) (g.C.Chunks.tally c.write_array-2.new.access))) target c.write_array-2.ensures.called in
+    on_ok_then c.write_array-2.result
+    (λ called. subst (λ (n : ℕ). Adds n (g.C.Chunks.tally c.args.access.now) (g.C.Chunks.tally c.write_array-2.new.access)) (sym tally)
+    (all_added (g.C.Chunks.tally c.args.access.now) (g.C.Chunks.tally c.write_array.new.access) (g.C.Chunks.tally c.write_array-2.new.access)
+    (sum_by (weight_in (g.C.Chunks.weight c.args.store.now) c.args.task.now.plan.arrays) (walk_cells c.args.task.now.plan.arrays (walk c.args.array (task_lo c.args.task.now.plan.arrays (op_of c.args.task.now.plan c.args.task.now.op) c.args.task.now.number) (task_hi c.args.task.now.plan.arrays (op_of c.args.task.now.plan c.args.task.now.op) c.args.task.now.number)))) (sum_by (weight_in (g.C.Chunks.weight c.args.store.now) c.args.task.now.plan.arrays) (walk_cells c.args.task.now.plan.arrays (walk (target_of (op_of c.args.task.now.plan c.args.task.now.op)) (task_lo c.args.task.now.plan.arrays (op_of c.args.task.now.plan c.args.task.now.op) c.args.task.now.number) (task_hi c.args.task.now.plan.arrays (op_of c.args.task.now.plan c.args.task.now.op) c.args.task.now.number)))) values called)) places
+
+pub returns-in_err-write_array-clause-called : goal.returns-in_err-write_array-clause-called
+returns-in_err-write_array-clause-called g c = let p = err_from_is_err_and c.from_residual.result c.from_residual.ensures.1 in rw p.1 tt
 
 pub write_array-requires-clause-puts : goal.write_array-requires-clause-puts
 write_array-requires-clause-puts g c =

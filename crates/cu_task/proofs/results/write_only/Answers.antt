@@ -1,5 +1,7 @@
 use Rattle.std.proofs.Common.{◌≡◌, ℕ, length, sym, ap, ◌∙◌, subst, arith}
-use Rattle.std.specs.Prelude.{OnOk}
+use Rattle.std.specs.Prelude.{OnOk, sum_by}
+use Rattle.cu_store.specs.Chunks.{Adds}
+use Rattle.cu_task.specs.Calls.{weight_in}
 use Rattle.cu_store.specs.Steps.{Steps}
 use Rattle.cu_store.proofs.Steps.{steps_wider}
 use Rattle.cu_op.specs.Arrays.{array_at}
@@ -11,7 +13,7 @@ use Rattle.cu_op.specs.Walks.{walk_cells}
 use Rattle.cu_region.specs.Calls.{Made}
 use Rattle.cu_region.specs.Writing.{LateIsOwn, RegionPut, StoresRegion}
 use Rattle.cu_task.proofs.InputReads.{on_ok_then}
-use Rattle.cu_task.proofs.TaskRegions.{only_calls, target_written}
+use Rattle.cu_task.proofs.TaskRegions.{only_calls, only_tally, target_written}
 use Rattle.cu_task.proofs.TaskSteps.{carries, puts_cells, late_own, holds_chunk, only_array}
 use Rattle.cu_task.specs.Asks.{AllowsRegion, MayReadRegion}
 use Rattle.cu_task.proofs.Allowed.{got_cell, allows_within}
@@ -37,6 +39,13 @@ returns-clause-all g c =
     let target : c.target-array.result ≡ (target_of (op_of c.args.task.now.plan c.args.task.now.op)) = c.target-array.ensures ∙ ap target_of c.operation.ensures.operation in
     let calls = only_calls c.args.task.now.plan.arrays (op_of c.args.task.now.plan c.args.task.now.op) c.args.task.now.number c.requires.only in
     subst (λ (n : ℕ). OnOk c.write_array.result (Made n (g.C.Chunks.shown c.args.access.now).calls (g.C.Chunks.shown c.write_array.new.access).calls)) (sym calls) (subst (λ (a : ℕ). OnOk c.write_array.result (Made (length (walk_cells c.args.task.now.plan.arrays (walk a (task_lo c.args.task.now.plan.arrays (op_of c.args.task.now.plan c.args.task.now.op) c.args.task.now.number) (task_hi c.args.task.now.plan.arrays (op_of c.args.task.now.plan c.args.task.now.op) c.args.task.now.number)))) (g.C.Chunks.shown c.args.access.now).calls (g.C.Chunks.shown c.write_array.new.access).calls)) target c.write_array.ensures.all)
+
+pub returns-clause-called : goal.returns-clause-called
+returns-clause-called g c =
+    let target : c.target-array.result ≡ (target_of (op_of c.args.task.now.plan c.args.task.now.op)) = c.target-array.ensures ∙ ap target_of c.operation.ensures.operation in
+    let tally = only_tally (weight_in (g.C.Chunks.weight c.args.store.now) c.args.task.now.plan.arrays) c.args.task.now.plan.arrays (op_of c.args.task.now.plan c.args.task.now.op) c.args.task.now.number c.requires.only in
+    subst (λ (n : ℕ). OnOk c.write_array.result (Adds n (g.C.Chunks.tally c.args.access.now) (g.C.Chunks.tally c.write_array.new.access))) (sym tally)
+    (subst (λ (a : ℕ). OnOk c.write_array.result (Adds (sum_by (weight_in (g.C.Chunks.weight c.args.store.now) c.args.task.now.plan.arrays) (walk_cells c.args.task.now.plan.arrays (walk a (task_lo c.args.task.now.plan.arrays (op_of c.args.task.now.plan c.args.task.now.op) c.args.task.now.number) (task_hi c.args.task.now.plan.arrays (op_of c.args.task.now.plan c.args.task.now.op) c.args.task.now.number)))) (g.C.Chunks.tally c.args.access.now) (g.C.Chunks.tally c.write_array.new.access))) target c.write_array.ensures.called)
 
 pub write_array-requires-clause-puts : goal.write_array-requires-clause-puts
 write_array-requires-clause-puts g c =

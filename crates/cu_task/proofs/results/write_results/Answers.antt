@@ -1,4 +1,4 @@
-use Rattle.std.proofs.Common.{◌≤◌, sym, ap, ◌∙◌, arith}
+use Rattle.std.proofs.Common.{sym, ap, ◌∙◌, arith}
 use Rattle.cu_op.specs.Schedule.{op_of}
 use Rattle.cu_op.specs.Operation.{value_array}
 use Rattle.cu_task.proofs.Inside.{scratch_of_work}

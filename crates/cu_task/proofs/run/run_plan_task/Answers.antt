@@ -6,12 +6,12 @@ use Rattle.cu_store.proofs.Steps.{steps_then, steps_wider, steps_none}
 use Rattle.cu_op.specs.Schedule.{op_of}
 use Rattle.cu_op.specs.TaskView.{TaskView}
 use Rattle.cu_op.specs.Walks.{written_chunks}
-use Rattle.cu_task.specs.OfTask.{held_inputs, HoldsFor}
+use Rattle.cu_task.specs.OfTask.{held_inputs, tally_to_read, tally_to_write, HoldsFor}
 use Rattle.cu_task.specs.Calls.{read_calls}
 use Rattle.cu_task.specs.Task.{IsTaskKey, TaskChange}
 use Rattle.cu_task.specs.TaskRoom.{HasMadeAll, IsAllMadeOver}
 use Rattle.cu_task.specs.declared.room.TaskRoom.{TaskRoom}
-use Rattle.cu_task.proofs.InputReads.{on_err_more, on_ok_then, all_made, still_first}
+use Rattle.cu_task.proofs.InputReads.{on_err_more, on_ok_then, all_added, all_made, still_first}
 use Rattle.cu_task.proofs.TaskSteps.{write_fault}
 use Rattle.cu_store.proofs.StaysOpen.{open_then}
 use Rattle.cu_task.proofs.run.run_plan_task.Goals as goal
@@ -44,6 +44,18 @@ returns-clause-step g c =
 pub returns-clause-all : goal.returns-clause-all
 returns-clause-all g c sure =
     on_ok_then c.write_results.result (λ second. all_made (g.C.Chunks.shown c.args.access.now).calls (g.C.Chunks.shown c.make_result.new.access).calls (g.C.Chunks.shown c.write_results.new.access).calls (read_calls c.args.task.now.plan c.args.task.now.op c.args.task.now.number) (length (written_chunks c.args.task.now.plan.arrays (op_of c.args.task.now.plan c.args.task.now.op) c.args.task.now.number)) (c.in_ok-make_result.ensures.all sure) second) c.write_results.ensures.all
+
+pub returns-clause-called : goal.returns-clause-called
+returns-clause-called g c sure =
+    let task = c.args.task.now in
+    let weight = g.C.Chunks.weight c.args.store.now in
+    on_ok_then c.write_results.result
+    (λ second. all_added (g.C.Chunks.tally c.args.access.now) (g.C.Chunks.tally c.make_result.new.access) (g.C.Chunks.tally c.write_results.new.access) (tally_to_read weight task) (tally_to_write weight task)
+    (c.in_ok-make_result.ensures.called sure) second)
+    c.write_results.ensures.called
+
+pub returns-in_err-make_result-clause-called : goal.returns-in_err-make_result-clause-called
+returns-in_err-make_result-clause-called g c sure = let p = err_from_is_err_and c.from_residual.result c.from_residual.ensures.1 in rw p.1 tt
 
 pub returns-clause-cause : goal.returns-clause-cause
 returns-clause-cause g c =

@@ -31,6 +31,9 @@ returns-clause-step g c = rw (c.make.ensures.plan, c.make.ensures.operation, c.m
 pub returns-clause-all : goal.returns-clause-all
 returns-clause-all g c = rw (c.make.ensures.plan, c.make.ensures.operation, c.make.ensures.number) at c.run_plan_task.ensures.all
 
+pub returns-clause-called : goal.returns-clause-called
+returns-clause-called g c = rw (c.make.ensures.plan, c.make.ensures.operation, c.make.ensures.number) at c.run_plan_task.ensures.called
+
 pub returns-clause-cause : goal.returns-clause-cause
 returns-clause-cause g c =
     let old = g.C.Chunks.shown c.args.access.now in

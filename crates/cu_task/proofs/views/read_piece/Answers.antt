@@ -1,8 +1,8 @@
 use Rattle.std.proofs.Common.{sym, ◌∙◌}
 use Rattle.std.proofs.lemmas.Bool.{true≢false}
-use Rattle.cu_task.specs.ViewJobs.{view_task_of}
+use Rattle.cu_task.specs.ViewJobs.{job_weight, view_task_of}
 use Rattle.cu_task.specs.Views.{IsOfChunk}
-use Rattle.cu_task.proofs.ViewChunks.{needed, calls_unneeded, calls_needed}
+use Rattle.cu_task.proofs.ViewChunks.{needed, calls_unneeded, calls_needed, tally_unneeded, tally_needed}
 use Rattle.cu_task.proofs.ViewElements.{takes_nothing}
 use Rattle.cu_task.proofs.views.read_piece.Goals as goal
 
@@ -19,3 +19,13 @@ pub returns-clause-step : goal.returns-clause-step
 returns-clause-step g c =
     calls_needed (view_task_of c.args.chunk.now.job.now) c.args.chunk.now.source c.args.chunk.now.coord (g.C.Chunks.shown c.args.access.now) (g.C.Chunks.shown c.take_chunk.new.access)
     (λ exact. c.is_needed.ensures.only exact c.if-not-is_needed.false) c.take_chunk.ensures.step
+
+pub returns-then-not-is_needed-clause-called : goal.returns-then-not-is_needed-clause-called
+returns-then-not-is_needed-clause-called g c exact =
+    tally_unneeded (job_weight (g.C.Chunks.weight c.args.store.now) c.args.chunk.now.job.now) (view_task_of c.args.chunk.now.job.now) c.args.chunk.now.source c.args.chunk.now.coord (g.C.Chunks.tally c.args.access.now) exact
+    (λ needs. true≢false (sym (c.is_needed.ensures.needed needs) ∙ c.if-not-is_needed.true))
+
+pub returns-clause-called : goal.returns-clause-called
+returns-clause-called g c exact =
+    tally_needed (job_weight (g.C.Chunks.weight c.args.store.now) c.args.chunk.now.job.now) (view_task_of c.args.chunk.now.job.now) c.args.chunk.now.source c.args.chunk.now.coord (g.C.Chunks.tally c.args.access.now) (g.C.Chunks.tally c.take_chunk.new.access) exact
+    (c.is_needed.ensures.only exact c.if-not-is_needed.false) c.take_chunk.ensures.called

@@ -1,6 +1,6 @@
-use Rattle.cu_task.specs.ViewJobs.{view_task_of}
+use Rattle.cu_task.specs.ViewJobs.{job_weight, view_task_of}
 use Rattle.cu_task.proofs.JobViews.{fitting}
-use Rattle.cu_task.proofs.ViewChunks.{no_sure_calls}
+use Rattle.cu_task.proofs.ViewChunks.{no_sure_calls, no_tally}
 use Rattle.std.proofs.Common.{arith}
 use Rattle.cu_store.specs.Steps.{NoChange}
 use Rattle.cu_store.proofs.Steps.{steps_same, steps_wider}
@@ -10,12 +10,17 @@ use Rattle.cu_task.proofs.views.read_source.Goals as goal
 pub returns-in-None-clause-all : goal.returns-in-None-clause-all
 returns-in-None-clause-all g c = no_sure_calls (view_task_of c.args.job.now) (fitting c.args.job.now c.requires.job) c.args.source (g.C.Chunks.shown c.args.access.now).calls c.in-None.ensures
 
+pub returns-in-None-clause-called : goal.returns-in-None-clause-called
+returns-in-None-clause-called g c exact =
+    no_tally (job_weight (g.C.Chunks.weight c.args.store.now) c.args.job.now) (view_task_of c.args.job.now) (fitting c.args.job.now c.requires.job) c.args.source (g.C.Chunks.tally c.args.access.now) c.in-None.ensures exact
+
 pub returns-in-Some : goal.returns-in-Some
 returns-in-Some g c = record {
   «open» = c.read_within.ensures.«open»;
   takes = c.read_within.ensures.takes;
   step = c.read_within.ensures.step;
   all = c.read_within.ensures.all;
+  called = c.read_within.ensures.called;
   cause = c.read_within.ensures.cause;
 }
 

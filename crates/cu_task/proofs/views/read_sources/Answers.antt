@@ -2,10 +2,11 @@ use Rattle.std.proofs.Common.{ℕ, ◌+◌, ◌<◌, length, sym, subst, arith, 
 use Rattle.cu_store.specs.Faults.{Rose}
 use Rattle.cu_store.specs.Steps.{NoChange, Steps}
 use Rattle.cu_store.proofs.Steps.{steps_same, steps_then, steps_wider}
-use Rattle.cu_task.specs.ViewJobs.{view_task_of, source_room}
+use Rattle.cu_store.specs.Chunks.{Adds}
+use Rattle.cu_task.specs.ViewJobs.{job_weight, tally_for_sources, view_task_of, source_room}
 use Rattle.cu_task.specs.Views.{view_calls, source_calls, sure_calls, IsAny, HasPulled}
 use Rattle.cu_task.proofs.JobViews.{fitting}
-use Rattle.cu_task.proofs.ViewChunks.{sure_none, sure_rose, view_calls_more, view_calls_within}
+use Rattle.cu_task.proofs.ViewChunks.{sure_none, sure_rose, view_calls_more, view_calls_within, view_tally_more}
 use Rattle.cu_task.proofs.ViewElements.{known_later, takes_before, pulled_more}
 use Rattle.cu_store.proofs.StaysOpen.{open_same, open_then}
 use Rattle.std.proofs.lemmas.Result.{err_from_is_err_and}
@@ -17,6 +18,7 @@ loop-source-init g c = record {
   all = (let e = sure_none c.args.job.now.pull.now in omega (arith, e));
   open_ = open_same (g.C.Chunks.may_get c.args.store.now c.args.access.now) c.requires.belongs;
   pulled = λ told known pulled. pulled;
+  called = λ exact. omega arith;
 }
 
 pub loop-source-preserved : goal.loop-source-preserved
@@ -35,6 +37,11 @@ loop-source-preserved g c =
           let later = known_later (view_task_of c.args.job.now) c.loop-source.source told 0 (view_calls (view_task_of c.args.job.now) c.loop-source.source) (g.C.Chunks.shown c.args.access.now) (g.C.Chunks.shown c.loop-source.access) (known c.loop-source.source below) before.step in
           pulled_more (view_task_of c.args.job.now) c.loop-source.source told c.loop-source.output c.read_source.new.output (before.pulled told known pulled)
           (takes_before (view_task_of c.args.job.now) (fitting c.args.job.now c.requires.job) c.loop-source.source IsAny told (g.C.Chunks.shown c.loop-source.access) later c.loop-source.output c.read_source.new.output (c.in_ok-read_source.ensures.takes later.now later.known));
+      called = λ exact.
+          let sums = view_tally_more (job_weight (g.C.Chunks.weight c.args.store.now) c.args.job.now) (view_task_of c.args.job.now) c.loop-source.source in
+          let first = before.called exact in
+          let second = c.in_ok-read_source.ensures.called exact in
+          omega (arith, sums, first, second);
     }
 
 pub returns-in_err-read_source-clause-step : goal.returns-in_err-read_source-clause-step
@@ -82,6 +89,12 @@ returns-clause-step g c = let all : c.loop-source.source ≡ length c.args.job.n
 
 pub returns-clause-all : goal.returns-clause-all
 returns-clause-all g c = let all : c.loop-source.source ≡ length c.args.job.now.ins.now = omega arith in subst (λ (n : ℕ). Rose (sure_calls c.args.job.now.pull.now (view_calls (view_task_of c.args.job.now) n)) (g.C.Chunks.shown c.args.access.now).calls (g.C.Chunks.shown c.loop-source.access).calls) all c.loop-source.invariant.all
+
+pub returns-clause-called : goal.returns-clause-called
+returns-clause-called g c exact = let all : c.loop-source.source ≡ length c.args.job.now.ins.now = omega arith in subst (λ (n : ℕ). Adds (tally_for_sources (g.C.Chunks.weight c.args.store.now) c.args.job.now n) (g.C.Chunks.tally c.args.access.now) (g.C.Chunks.tally c.loop-source.access)) all (c.loop-source.invariant.called exact)
+
+pub returns-in_err-read_source-clause-called : goal.returns-in_err-read_source-clause-called
+returns-in_err-read_source-clause-called g c exact = let p = err_from_is_err_and c.from_residual.result c.from_residual.ensures.1 in rw p.1 tt
 
 pub returns-clause-pulled : goal.returns-clause-pulled
 returns-clause-pulled g c told known pulled = let all : c.loop-source.source ≡ length c.args.job.now.ins.now = omega arith in subst (λ (n : ℕ). HasPulled (view_task_of c.args.job.now) n told c.loop-source.output) all (c.loop-source.invariant.pulled told known pulled)

@@ -6,10 +6,13 @@ use Rattle.cu_grid.specs.Cover.{covering}
 use Rattle.cu_op.specs.declared.layout.ArrayInfo.{ArrayInfo}
 use Rattle.cu_region.proofs.SteadyKeys.{first_contains, rest_contains}
 use Rattle.cu_region.proofs.StoredReads.{fault_more}
-use Rattle.cu_task.specs.ViewJobs.{view_task_of, source_room}
-use Rattle.cu_task.specs.Views.{source_in, may_read, IsSourceKey, IsOfChunk}
+use Rattle.std.specs.Prelude.{sum_by}
+use Rattle.cu_region.proofs.Calls.{TallySoFar, tally_none_yet, tally_one_more, tally_all}
+use Rattle.cu_store.specs.Chunks.{Adds}
+use Rattle.cu_task.specs.ViewJobs.{job_weight, view_task_of, source_room}
+use Rattle.cu_task.specs.Views.{source_in, may_read, tally_for, IsSourceKey, IsOfChunk}
 use Rattle.cu_task.proofs.JobViews.{fitting}
-use Rattle.cu_task.proofs.ViewChunks.{CallsSoFar, calls_none_yet, calls_one_more, calls_most, cover_calls, cover_coordinate, all_calls, sure_made}
+use Rattle.cu_task.proofs.ViewChunks.{CallsSoFar, calls_none_yet, calls_one_more, calls_most, cover_calls, cover_coordinate, all_calls, exact_tally, sure_made}
 use Rattle.cu_task.proofs.ViewElements.{SoFar, so_far_none, so_far_more, so_far_all, takes_before, known_after}
 use Rattle.cu_store.proofs.StaysOpen.{open_same, open_then}
 use Rattle.cu_task.proofs.views.read_within.Goals as goal
@@ -28,6 +31,7 @@ loop-coord-init g c =
           (ap (count_by (may_read (view_task_of c.args.part.now.job.now) c.args.part.now.source)) e);
       open_ = open_same (g.C.Chunks.may_get c.args.store.now c.args.access.now) c.requires.belongs;
       takes = λ told known. so_far_none (view_task_of c.args.part.now.job.now) fit c.args.part.now.source c.requires.part.source c.args.part.now.region c.requires.part.hull told c.into_iter-coord-iterator.result c.args.output.now (λ coord has. subst (λ (x : List (List ℕ)). Contains x coord) (sym e) has);
+      called = λ exact. tally_none_yet (λ coord. tally_for (job_weight (g.C.Chunks.weight c.args.store.now) c.args.part.now.job.now) (view_task_of c.args.part.now.job.now) c.args.part.now.source coord) (sum_by (λ coord. tally_for (job_weight (g.C.Chunks.weight c.args.store.now) c.args.part.now.job.now) (view_task_of c.args.part.now.job.now) c.args.part.now.source coord) (covering (source_in (view_task_of c.args.part.now.job.now) c.args.part.now.source).layout.grid.chunk c.args.part.now.region.lo c.args.part.now.region.hi)) c.into_iter-coord-iterator.result (g.C.Chunks.tally c.args.access.now) (ap (sum_by (λ coord. tally_for (job_weight (g.C.Chunks.weight c.args.store.now) c.args.part.now.job.now) (view_task_of c.args.part.now.job.now) c.args.part.now.source coord)) e);
     }
 
 pub read_piece-requires-clause-chunk : goal.read_piece-requires-clause-chunk
@@ -53,6 +57,8 @@ loop-coord-preserved g c =
           so_far_more (view_task_of c.args.part.now.job.now) c.args.part.now.source told c.in-Some.coord c.next.new.self c.args.output.now c.loop-coord.output c.read_piece.new.output
           (subst (λ (x : List (List ℕ)). SoFar (view_task_of c.args.part.now.job.now) c.args.part.now.source told x c.args.output.now c.loop-coord.output) e (c.loop-coord.invariant.takes told known))
           (takes_before (view_task_of c.args.part.now.job.now) (fitting c.args.part.now.job.now c.requires.part.job) c.args.part.now.source (IsOfChunk (view_task_of c.args.part.now.job.now) c.args.part.now.source c.in-Some.coord) told (g.C.Chunks.shown c.loop-coord.access) later c.loop-coord.output c.read_piece.new.output (c.in_ok-read_piece.ensures.takes later.now later.known));
+      called = λ exact. tally_one_more (λ coord. tally_for (job_weight (g.C.Chunks.weight c.args.store.now) c.args.part.now.job.now) (view_task_of c.args.part.now.job.now) c.args.part.now.source coord) (sum_by (λ coord. tally_for (job_weight (g.C.Chunks.weight c.args.store.now) c.args.part.now.job.now) (view_task_of c.args.part.now.job.now) c.args.part.now.source coord) (covering (source_in (view_task_of c.args.part.now.job.now) c.args.part.now.source).layout.grid.chunk c.args.part.now.region.lo c.args.part.now.region.hi)) c.in-Some.coord c.next.new.self (g.C.Chunks.tally c.args.access.now) (g.C.Chunks.tally c.loop-coord.access) (g.C.Chunks.tally c.read_piece.new.access)
+          (subst (λ (x : List (List ℕ)). TallySoFar (λ coord. tally_for (job_weight (g.C.Chunks.weight c.args.store.now) c.args.part.now.job.now) (view_task_of c.args.part.now.job.now) c.args.part.now.source coord) (sum_by (λ coord. tally_for (job_weight (g.C.Chunks.weight c.args.store.now) c.args.part.now.job.now) (view_task_of c.args.part.now.job.now) c.args.part.now.source coord) (covering (source_in (view_task_of c.args.part.now.job.now) c.args.part.now.source).layout.grid.chunk c.args.part.now.region.lo c.args.part.now.region.hi)) x (g.C.Chunks.tally c.args.access.now) (g.C.Chunks.tally c.loop-coord.access)) e (c.loop-coord.invariant.called exact)) (c.read_piece.ensures.called exact);
     }
 
 pub returns-clause-takes : goal.returns-clause-takes
@@ -72,6 +78,16 @@ returns-clause-all g c =
     sure_made (view_task_of c.args.part.now.job.now) c.args.part.now.source total (g.C.Chunks.shown c.args.access.now) (g.C.Chunks.shown c.loop-coord.access)
     (subst (λ (x : List (List ℕ)). CallsSoFar (view_task_of c.args.part.now.job.now) c.args.part.now.source (count_by (may_read (view_task_of c.args.part.now.job.now) c.args.part.now.source) (covering (source_in (view_task_of c.args.part.now.job.now) c.args.part.now.source).layout.grid.chunk c.args.part.now.region.lo c.args.part.now.region.hi)) x (g.C.Chunks.shown c.args.access.now) (g.C.Chunks.shown c.loop-coord.access)) e c.loop-coord.invariant.calls)
     (all_calls (view_task_of c.args.part.now.job.now) (fitting c.args.part.now.job.now c.requires.part.job) c.args.part.now.source c.requires.part.source c.args.part.now.region c.requires.part.hull)
+
+pub returns-clause-called : goal.returns-clause-called
+returns-clause-called g c exact =
+    let e : c.loop-coord.coord-iterator ≡ [] = c.in-None.ensures.steps.0 in
+    let all = exact_tally (view_task_of c.args.part.now.job.now) (fitting c.args.part.now.job.now c.requires.part.job) c.args.part.now.source c.requires.part.source c.args.part.now.region c.requires.part.hull (job_weight (g.C.Chunks.weight c.args.store.now) c.args.part.now.job.now) exact in
+    subst (λ (n : ℕ). Adds n (g.C.Chunks.tally c.args.access.now) (g.C.Chunks.tally c.loop-coord.access)) all
+    (tally_all (λ coord. tally_for (job_weight (g.C.Chunks.weight c.args.store.now) c.args.part.now.job.now) (view_task_of c.args.part.now.job.now) c.args.part.now.source coord) (sum_by (λ coord. tally_for (job_weight (g.C.Chunks.weight c.args.store.now) c.args.part.now.job.now) (view_task_of c.args.part.now.job.now) c.args.part.now.source coord) (covering (source_in (view_task_of c.args.part.now.job.now) c.args.part.now.source).layout.grid.chunk c.args.part.now.region.lo c.args.part.now.region.hi)) (g.C.Chunks.tally c.args.access.now) (g.C.Chunks.tally c.loop-coord.access) (subst (λ (x : List (List ℕ)). TallySoFar (λ coord. tally_for (job_weight (g.C.Chunks.weight c.args.store.now) c.args.part.now.job.now) (view_task_of c.args.part.now.job.now) c.args.part.now.source coord) (sum_by (λ coord. tally_for (job_weight (g.C.Chunks.weight c.args.store.now) c.args.part.now.job.now) (view_task_of c.args.part.now.job.now) c.args.part.now.source coord) (covering (source_in (view_task_of c.args.part.now.job.now) c.args.part.now.source).layout.grid.chunk c.args.part.now.region.lo c.args.part.now.region.hi)) x (g.C.Chunks.tally c.args.access.now) (g.C.Chunks.tally c.loop-coord.access)) e (c.loop-coord.invariant.called exact)))
+
+pub returns-in_err-read_piece-clause-called : goal.returns-in_err-read_piece-clause-called
+returns-in_err-read_piece-clause-called g c exact = let p = err_from_is_err_and c.from_residual.result c.from_residual.ensures.1 in rw p.1 tt
 
 pub returns-in_err-read_piece-clause-step : goal.returns-in_err-read_piece-clause-step
 returns-in_err-read_piece-clause-step g c =

@@ -9,6 +9,7 @@ use Rattle.cu_task.specs.ViewJobs.{view_task_of}
 use Rattle.cu_task.specs.Views.{source_in, IsSourceKey}
 use Rattle.cu_task.proofs.JobViews.{fitting, source_below, source_array_ok}
 use Rattle.cu_task.proofs.ViewElements.{takes_chunk}
+use Rattle.cu_store.specs.Chunks.{Adds}
 use Rattle.cu_task.proofs.views.take_chunk.Goals as goal
 
 pub read_chunk-requires-clause-short : goal.read_chunk-requires-clause-short
@@ -68,3 +69,13 @@ move_chunk-requires-clause-output g c = c.requires.output
 
 pub read_chunk-requires-clause-may : goal.read_chunk-requires-clause-may
 read_chunk-requires-clause-may g c = subst (λ (a : ArrayInfo). g.C.Chunks.may_get c.args.store.now c.args.access.now (key_at a c.args.chunk.now.coord)) (sym c.source_array-from.ensures) (c.requires.may (key_at (source_in (view_task_of c.args.chunk.now.job.now) c.args.chunk.now.source) c.args.chunk.now.coord) (c.args.chunk.now.coord, c.requires.chunk.coordinate, refl))
+
+pub returns-clause-called : goal.returns-clause-called
+returns-clause-called g c =
+    subst (λ (a : ArrayInfo). Adds (g.C.Chunks.weight c.args.store.now (key_at a c.args.chunk.now.coord)) (g.C.Chunks.tally c.args.access.now) (g.C.Chunks.tally c.read_chunk.new.access)) c.source_array-from.ensures
+    c.read_chunk.ensures.called
+
+pub returns-in_err-read_chunk-clause-called : goal.returns-in_err-read_chunk-clause-called
+returns-in_err-read_chunk-clause-called g c =
+    subst (λ (a : ArrayInfo). Adds (g.C.Chunks.weight c.args.store.now (key_at a c.args.chunk.now.coord)) (g.C.Chunks.tally c.args.access.now) (g.C.Chunks.tally c.read_chunk.new.access)) c.source_array-from.ensures
+    c.read_chunk.ensures.called

@@ -36,7 +36,7 @@ copy_rows-requires-in-loop-index t c =
                 (slice_move c.args.part.now c.args.level c.loop-index.index c.requires.moves.some below low high c.args.copying.now.piece.now c.args.copying.now.from.now c.args.copying.now.to.now c.requires.moves),
             (
               c.requires.from_block,
-              (record { inside = c.requires.to_block.inside; long = c.loop-index.invariant.same_length ∙ c.requires.to_block.long }, c.requires.spelled),
+              record { inside = c.requires.to_block.inside; long = c.loop-index.invariant.same_length ∙ c.requires.to_block.long },
             ),
           ),
         ),

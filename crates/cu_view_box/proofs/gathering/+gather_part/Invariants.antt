@@ -9,6 +9,6 @@ decreases-gather_part l = length l.part.now.lo - l.level
 abbrev pub invariant-loop-index : goal.invariant-loop-index
 invariant-loop-index l = record {
   same_length : length l.output ≡ length l.fn.output;
-  drawn : IsDrawn (reshaped l.sizes.source.now l.sizes.shape.now) (up_to l.part l.level l.index) l.from l.bytes l.to l.output;
-  others : AreOthersLeft (reshaped l.sizes.source.now l.sizes.shape.now) (up_to l.part l.level l.index) l.from l.to l.fn.output l.output;
+  drawn : IsDrawn (reshaped l.drawing.source.now l.shape) (up_to l.part l.level l.index) l.drawing.from.now l.drawing.bytes.now l.drawing.to.now l.output;
+  others : AreOthersLeft (reshaped l.drawing.source.now l.shape) (up_to l.part l.level l.index) l.drawing.from.now l.drawing.to.now l.fn.output l.output;
 }

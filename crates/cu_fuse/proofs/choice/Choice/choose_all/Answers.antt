@@ -2,13 +2,13 @@ use Rattle.std.proofs.Common.{◌≡◌, ◌++◌, [], ◌∷◌, ℕ, All, leng
 use Rattle.std.specs.List.{range_with_len}
 use Rattle.std.proofs.lemmas.List.Elements.{All-push}
 use Rattle.std.proofs.lemmas.List.FromFn.{map-range_with_len_more}
-use Rattle.cu_fuse.specs.Choosing.{plan_of, IsChosenTo}
+use Rattle.cu_fuse.specs.Choosing.{plan_view, IsChosenTo}
 use Rattle.cu_fuse.specs.Rooms.{room_within, IsModest}
 use Rattle.cu_fuse.proofs.choice.Choice.choose_all.Goals as goal
 
 pub loop-k-preserved : goal.loop-k-preserved
 loop-k-preserved c =
-    let q = plan_of c.choose_inputs-room.new.self in
+    let q = plan_view c.choose_inputs-room.new.self in
     let k = c.loop-k.k in
     let room = c.choose_inputs-room.result in
     let pushed = (c.in_ok-push.ensures {u = tt}).items in
@@ -26,4 +26,4 @@ returns-clause-chosen c =
     let f = c.loop-k-test.false in
     let e = c.loop-k.auto.k-end in
     let same : c.loop-k.k ≡ length c.args.self.now.ops.items = omega (arith, all, f, e) in
-    subst (λ (n : ℕ). IsChosenTo (plan_of c.loop-k.self) n 0) same c.loop-k.invariant.chosen
+    subst (λ (n : ℕ). IsChosenTo (plan_view c.loop-k.self) n 0) same c.loop-k.invariant.chosen

@@ -1,11 +1,11 @@
 use Rattle.std.proofs.Common.{◌≡◌, ◌<◌, ◌^◌, ℕ, List, All, length, get_or, refl, ap, sym, ◌∙◌, subst, arith}
 use Rattle.std.proofs.lemmas.List.{get_or_read}
 use Rattle.cu_fuse.proofs.Choices.{all_reads, all_writes, done, first_is, own_small}
-use Rattle.cu_fuse.specs.Choosing.{all_stored, plan_of}
+use Rattle.cu_fuse.specs.Choosing.{all_stored, plan_view}
 use Rattle.cu_fuse.specs.Rooms.{own_room}
 use Rattle.cu_op.specs.Operation.{reads_of, writes_of}
 use Rattle.cu_op.specs.PlanView.{PlanView, no_operation, op_of}
-use Rattle.cu_op.specs.Projection.{own_projection}
+use Rattle.cu_op.specs.Projection.{input_room}
 use Rattle.cu_op.specs.declared.layout.ArrayInfo.{ArrayInfo}
 use Rattle.cu_op.specs.declared.operation.Op.{Op}
 use Rattle.cu_op.specs.declared.operation.Planned.{Planned}
@@ -20,29 +20,29 @@ same_reads p q k n e l = ap (λ (r : PlanView). length (reads_of (op_of r k))) e
 
 pub own_room-room-requires-clause-reads : goal.own_room-room-requires-clause-reads
 own_room-room-requires-clause-reads c =
-    let p = plan_of c.args.self.now in
+    let p = plan_view c.args.self.now in
     subst (λ (l : List ArrayInfo). All (λ a. a < length l) (reads_of c.index-2.result.now.op)) (sym c.deref.ensures.value)
     (subst (λ (op : Op). All (λ a. a < length p.arrays) (reads_of op)) (sym (op_is p c.args.k c.index-2.result.now c.requires.reader c.index-2.ensures))
     (all_reads p c.args.k 0 c.requires.chosen c.requires.reader))
 
 pub own_room-room-requires-clause-writes : goal.own_room-room-requires-clause-writes
 own_room-room-requires-clause-writes c =
-    let p = plan_of c.args.self.now in
+    let p = plan_view c.args.self.now in
     subst (λ (l : List ArrayInfo). All (λ a. a < length l) (writes_of c.index-2.result.now.op)) (sym c.deref.ensures.value)
     (subst (λ (op : Op). All (λ a. a < length p.arrays) (writes_of op)) (sym (op_is p c.args.k c.index-2.result.now c.requires.reader c.index-2.ensures))
     (all_writes p c.args.k 0 c.requires.chosen c.requires.reader))
 
 pub own_room-room-requires-clause-small : goal.own_room-room-requires-clause-small
 own_room-room-requires-clause-small c =
-    let p = plan_of c.args.self.now in
+    let p = plan_view c.args.self.now in
     let op = op_is p c.args.k c.index-2.result.now c.requires.reader c.index-2.ensures in
-    let same : own_projection c.deref.result.now 0 c.index-2.result.now.op ≡ own_projection p.arrays 0 (op_of p c.args.k) =
-    (λ t. own_projection (c.deref.ensures.value t) 0 (op t)) in
+    let same : input_room c.deref.result.now c.index-2.result.now.op ≡ input_room p.arrays (op_of p c.args.k) =
+    (λ t. input_room (c.deref.ensures.value t) (op t)) in
     subst (λ (n : ℕ). n < 2 ^ 64) (sym same) (own_small p c.args.k 0 c.requires.chosen c.requires.reader)
 
 pub loop-i-init : goal.loop-i-init
 loop-i-init c =
-    let p = plan_of c.args.self.now in
+    let p = plan_view c.args.self.now in
     let op = op_is p c.args.k c.index-2.result.now c.requires.reader c.index-2.ensures in
     record {
       chosen = c.requires.chosen;
@@ -60,9 +60,9 @@ choose-next-requires-clause-reader c =
 
 pub choose-next-requires-clause-within : goal.choose-next-requires-clause-within
 choose-next-requires-clause-within c =
-    let p = plan_of c.args.self.now in
+    let p = plan_view c.args.self.now in
     let all = c.len-count.ensures.value ∙ ap length (c.reads.ensures ∙ ap reads_of (op_is p c.args.k c.index.result.now c.requires.reader c.index.ensures)) in
-    let long = same_reads p (plan_of c.loop-i.self) c.args.k c.len-count.result c.loop-i.invariant.plan all in
+    let long = same_reads p (plan_view c.loop-i.self) c.args.k c.len-count.result c.loop-i.invariant.plan all in
     let t = c.loop-i-test.true in
     omega (arith, long, t)
 
@@ -77,8 +77,8 @@ loop-i-preserved c = record {
 
 pub returns-clause-chosen : goal.returns-clause-chosen
 returns-clause-chosen c =
-    let p = plan_of c.args.self.now in
-    let q = plan_of c.loop-i.self in
+    let p = plan_view c.args.self.now in
+    let q = plan_view c.loop-i.self in
     let all = c.len-count.ensures.value ∙ ap length (c.reads.ensures ∙ ap reads_of (op_is p c.args.k c.index.result.now c.requires.reader c.index.ensures)) in
     let long = same_reads p q c.args.k c.len-count.result c.loop-i.invariant.plan all in
     let f = c.loop-i-test.false in

@@ -3,7 +3,7 @@ use Rattle.std.specs.List.{range_with_len}
 use Rattle.std.proofs.lemmas.List.{get_or_read, length-set}
 use Rattle.cu_fuse.proofs.Filling.{filled_all}
 use Rattle.cu_fuse.proofs.Renaming.{counted_few, counted_step, renamed_array, renamed_step}
-use Rattle.cu_fuse.specs.Choosing.{plan_of}
+use Rattle.cu_fuse.specs.Choosing.{plan_view}
 use Rattle.cu_fuse.specs.Inlining.{is_numbered}
 use Rattle.cu_name.specs.Keys.{made_prefix_of}
 use Rattle.cu_name.specs.Name.{IsArrayName}
@@ -27,12 +27,12 @@ rename_array-next-requires-clause-array c =
 
 pub rename_array-next-requires-clause-named : goal.rename_array-next-requires-clause-named
 rename_array-next-requires-clause-named c =
-    let p = plan_of c.args.self.now in
+    let p = plan_view c.args.self.now in
     subst IsArrayName (sym (name_is p c.index.result.now c.requires.out c.index.ensures)) c.requires.named
 
 pub rename_array-next-requires-clause-few : goal.rename_array-next-requires-clause-few
 rename_array-next-requires-clause-few c =
-    let p = plan_of c.args.self.now in
+    let p = plan_view c.args.self.now in
     let t = c.loop-a-test.true in
     let e = c.len-a-end.ensures in
     let few = c.requires.few in
@@ -42,8 +42,8 @@ rename_array-next-requires-clause-few c =
 
 pub loop-a-preserved : goal.loop-a-preserved
 loop-a-preserved c =
-    let p = plan_of c.args.self.now in
-    let q = plan_of c.loop-a.self in
+    let p = plan_view c.args.self.now in
+    let q = plan_view c.loop-a.self in
     let a = c.loop-a.a in
     let t = c.loop-a-test.true in
     let e = c.len-a-end.ensures in
@@ -61,7 +61,7 @@ loop-a-preserved c =
 
 pub returns : goal.returns
 returns c =
-    let p = plan_of c.args.self.now in
+    let p = plan_view c.args.self.now in
     let a = c.loop-a.a in
     let f = c.loop-a-test.false in
     let b = c.loop-a.auto.a-end in

@@ -1,7 +1,7 @@
 use Rattle.std.proofs.Common.{◌≡◌, ℕ, List, true, false, refl, ap, sym, ◌∙◌, if◌then◌else◌}
 use Rattle.std.proofs.Math.ListN.{set}
 use Rattle.std.proofs.lemmas.List.{set-get_or}
-use Rattle.cu_fuse.specs.Choosing.{plan_of}
+use Rattle.cu_fuse.specs.Choosing.{plan_view}
 use Rattle.cu_fuse.specs.Inlining.{is_numbered}
 use Rattle.cu_name.specs.Keys.{made_prefix_of}
 use Rattle.cu_op.specs.Arrays.{array_at, is_inlined, no_array}
@@ -25,23 +25,23 @@ on p name others a t = rw t refl
 
 pub returns-then-not-is_numbered-clause-arrays : goal.returns-then-not-is_numbered-clause-arrays
 returns-then-not-is_numbered-clause-arrays c =
-    off (plan_of c.args.self.now) c.args.name.now c.args.others c.args.a (sym c.is_numbered.ensures ∙ c.if-not-is_numbered.true)
+    off (plan_view c.args.self.now) c.args.name.now c.args.others c.args.a (sym c.is_numbered.ensures ∙ c.if-not-is_numbered.true)
 
 pub returns-then-not-is_numbered-clause-count : goal.returns-then-not-is_numbered-clause-count
 returns-then-not-is_numbered-clause-count c =
-    let p = plan_of c.args.self.now in
+    let p = plan_view c.args.self.now in
     let f : is_numbered p (is_inlined p.arrays) c.args.a ≡ false = sym c.is_numbered.ensures ∙ c.if-not-is_numbered.true in
     rw f refl
 
 pub returns-clause-arrays : goal.returns-clause-arrays
 returns-clause-arrays c =
-    let p = plan_of c.args.self.now in
+    let p = plan_view c.args.self.now in
     let t : is_numbered p (is_inlined p.arrays) c.args.a ≡ true = sym c.is_numbered.ensures ∙ c.if-not-is_numbered.false in
     let prefix = c.made_prefix-prefix.ensures.prefix ∙ on p c.args.name.now c.args.others c.args.a t in
     c.set_prefix.ensures ∙ (λ i. record p { arrays = set p.arrays c.args.a (record (array_at p.arrays c.args.a) { prefix = prefix i }) })
 
 pub returns-clause-count : goal.returns-clause-count
 returns-clause-count c =
-    let p = plan_of c.args.self.now in
+    let p = plan_view c.args.self.now in
     let t : is_numbered p (is_inlined p.arrays) c.args.a ≡ true = sym c.is_numbered.ensures ∙ c.if-not-is_numbered.false in
     rw t refl

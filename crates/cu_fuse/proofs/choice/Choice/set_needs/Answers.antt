@@ -5,7 +5,7 @@ use Rattle.std.proofs.lemmas.List.{length-set}
 use Rattle.cu_fuse.proofs.ChosenRooms.{needs_projection}
 use Rattle.cu_fuse.proofs.Filling.{filled_all, filled_at, filled_next}
 use Rattle.cu_fuse.proofs.Finished.{room_at, rooms_long}
-use Rattle.cu_fuse.specs.Choosing.{plan_of}
+use Rattle.cu_fuse.specs.Choosing.{plan_view}
 use Rattle.cu_fuse.specs.Rooms.{needs, room_within}
 use Rattle.cu_fuse.specs.declared.room.Room.{Room}
 use Rattle.cu_op.specs.PlanView.{PlanView, no_operation, operation_at}
@@ -14,7 +14,7 @@ use Rattle.cu_op.specs.declared.operation.Planned.{Planned}
 use Rattle.cu_fuse.proofs.choice.Choice.set_needs.Goals as goal
 
 abbrev no_room : Room
-no_room = record { steps = 0; reads = 0; scratch = 0; regions = 0 }
+no_room = record { steps = 0; reads = 0; scratch = 0; inputs = 0; output = 0 }
 
 abbrev needed : PlanView → ℕ → Planned
 needed p j = record (operation_at p.ops j) { projected = projection p j }
@@ -30,7 +30,7 @@ loop-k-init c = record { plan = refl; long = refl }
 
 pub bounds-rooms-k : goal.bounds-rooms-k
 bounds-rooms-k c =
-    let p = plan_of c.args.self.now in
+    let p = plan_view c.args.self.now in
     let all = rooms_long p (length p.ops) c.args.rooms.now c.requires.rooms in
     let t = c.loop-k-test.true in
     let e = c.len-k-end.ensures in
@@ -38,7 +38,7 @@ bounds-rooms-k c =
 
 pub needs-needs-requires : goal.needs-needs-requires
 needs-needs-requires c =
-    let p = plan_of c.args.self.now in
+    let p = plan_view c.args.self.now in
     let all = rooms_long p (length p.ops) c.args.rooms.now c.requires.rooms in
     let t = c.loop-k-test.true in
     let e = c.len-k-end.ensures in
@@ -47,7 +47,7 @@ needs-needs-requires c =
 
 pub overflow_cast-projected : goal.overflow_cast-projected
 overflow_cast-projected c =
-    let p = plan_of c.args.self.now in
+    let p = plan_view c.args.self.now in
     let t = c.loop-k-test.true in
     let e = c.len-k-end.ensures in
     let within : c.loop-k.k < length p.ops = omega (arith, t, e) in
@@ -65,8 +65,8 @@ set_projected-requires c =
 
 pub loop-k-preserved : goal.loop-k-preserved
 loop-k-preserved c =
-    let p = plan_of c.args.self.now in
-    let q = plan_of c.loop-k.self in
+    let p = plan_view c.args.self.now in
+    let q = plan_view c.loop-k.self in
     let k = c.loop-k.k in
     let t = c.loop-k-test.true in
     let e = c.len-k-end.ensures in
@@ -85,7 +85,7 @@ loop-k-preserved c =
 
 pub returns : goal.returns
 returns c =
-    let p = plan_of c.args.self.now in
+    let p = plan_view c.args.self.now in
     let k = c.loop-k.k in
     let f = c.loop-k-test.false in
     let b = c.loop-k.auto.k-end in
@@ -97,7 +97,7 @@ returns c =
 
 pub offset_bounds-rooms-k : goal.offset_bounds-rooms-k
 offset_bounds-rooms-k c =
-    let p = plan_of c.args.self.now in
+    let p = plan_view c.args.self.now in
     let all = rooms_long p (length p.ops) c.args.rooms.now c.requires.rooms in
     let t = c.loop-k-test.true in
     let e = c.len-k-end.ensures in

@@ -2,7 +2,7 @@ use Rattle.cu_op.proofs.Fetched.{maker_before, walk_chunk}
 use Rattle.cu_op.proofs.Operations.{input_array}
 use Rattle.cu_op.proofs.Plans.{grid_ok}
 use Rattle.cu_op.proofs.task.PlanTask.inner.Goals as goal
-use Rattle.cu_op.specs.Arrays.{maker_at}
+use Rattle.cu_op.specs.Arrays.{is_inlined, maker_at}
 use Rattle.cu_op.specs.Chunks.{walk}
 use Rattle.cu_op.specs.Operation.{reads_of, IsReadable}
 use Rattle.cu_op.specs.PlanView.{PlanView, op_of}
@@ -11,7 +11,7 @@ use Rattle.cu_op.specs.TaskView.{task_op, walk_at, IsInnerRegion, StandsFor, Tas
 use Rattle.cu_op.specs.Walks.{input_walks}
 use Rattle.cu_op.specs.declared.layout.ArrayInfo.{ArrayInfo}
 use Rattle.cu_op.specs.declared.walks.Walk.{Walk}
-use Rattle.std.proofs.Common.{◌≡◌, ℕ, ◌<◌, List, [], length, Contains, get_or, ap, sym, ◌∙◌, subst}
+use Rattle.std.proofs.Common.{◌≡◌, ℕ, ◌<◌, true, List, [], length, Contains, get_or, ap, sym, ◌∙◌, subst}
 use Rattle.std.proofs.lemmas.List.{get_or_read}
 use Rattle.std.proofs.lemmas.List.Elements.{All-contains}
 
@@ -29,11 +29,21 @@ sooner_made p s k task j region w h listed i =
     maker_before p s (maker_at p.arrays w.array) k j readable.1 i.maker
 
 stands_for : (t u inner : TaskView) (place : ℕ) (w : Walk) → t ≡ u → w ≡ walk_at u place
-    → inner.plan ≡ u.plan → inner.op < u.op → IsInnerRegion u.plan w inner.op inner.number
-    → StandsFor t (walk_at t place) inner
-stands_for t u inner place w same at plan before i =
+    → inner.plan ≡ u.plan → is_inlined u.plan.arrays w.array ≡ true → inner.op < u.op
+    → IsInnerRegion u.plan w inner.op inner.number → StandsFor t (walk_at t place) inner
+stands_for t u inner place w same at plan inlined before i =
     subst (λ (v : TaskView). StandsFor v (walk_at v place) inner) (sym same)
-    (record { plan = plan; before = before; region = subst (λ (v : Walk). IsInnerRegion u.plan v inner.op inner.number) at i })
+    (record {
+      plan = plan;
+      inlined = subst (λ (v : Walk). is_inlined u.plan.arrays v.array ≡ true) at inlined;
+      before = before;
+      region = subst (λ (v : Walk). IsInnerRegion u.plan v inner.op inner.number) at i;
+    })
+
+-- the array of the region is made where it is read
+is_made_inside : (c : goal.Else-not-array)
+    → is_inlined c.self.inside.plan.now.arrays c.index-deref-place.result.array ≡ true
+is_made_inside c = ap (λ (i : ArrayInfo). i.inlined) (sym c.array.ensures.array) ∙ c.if-not-array.false
 
 place_in : (c : goal.Else-not-array)
     → c.args.place < length (input_walks c.self.inside.plan.now.arrays (op_of c.self.inside.plan.now c.self.inside.op) c.self.inside.number)
@@ -46,7 +56,7 @@ listed c = listed_at c.deref.result.now _ c.args.place c.index-deref-place.resul
 pub inner_region-requires-clause-chunk : goal.inner_region-requires-clause-chunk
 inner_region-requires-clause-chunk c =
     walk_chunk c.self.inside.plan.now c.self.invariant.sound c.self.inside.op c.self.inside.number c.index-deref-place.result
-    c.self.inside.operation c.self.inside.within (listed c) (ap (λ (i : ArrayInfo). i.inlined) (sym c.array.ensures.array) ∙ c.if-not-array.false)
+    c.self.inside.operation c.self.inside.within (listed c) (is_made_inside c)
 
 pub returns-clause-made : goal.returns-clause-made
 returns-clause-made c =
@@ -61,4 +71,5 @@ returns-clause-made c =
     let inner : IsInnerRegion p w c.of_region.result.op c.of_region.result.number = rw (c.of_region.ensures.operation, c.of_region.ensures.number) c.in_ok-op.ensures in
     let before = sooner_made p c.self.invariant.sound k c.self.inside.number c.of_region.result.op c.of_region.result.number w c.self.inside.operation there inner in
     stands_for c.args.self.now (record { plan = p; op = k; number = c.self.inside.number; operation = c.self.inside.operation; within = c.self.inside.within })
-    c.of_region.result c.args.place w (sym c.self.view_is) at c.of_region.ensures.plan before inner
+    c.of_region.result c.args.place w (sym c.self.view_is) at c.of_region.ensures.plan
+    (ap (λ (i : ArrayInfo). i.inlined) (sym c.array.ensures.array) ∙ c.if-not-array.false) before inner

@@ -1,0 +1,41 @@
+-- A fold of what a map makes where it is read, by strips: consecutive places of the map's result.
+-- This project's own rules.
+use Rattle.std.specs.Prelude.{ℕ, ℤ, List, Option, None, Some}
+use Rattle.cu_kern.specs.Steps.{value_by_place}
+use Rattle.cu_num.specs.Dtype.{InRange}
+use Rattle.cu_num.specs.declared.types.Dtype.{Dtype}
+use Rattle.cu_op.specs.TaskView.{TaskView, task_op, walk_at}
+use Rattle.cu_op.specs.declared.operation.Op.{Op}
+use Rattle.cu_op.specs.declared.operation.Op.TheVariants.{Fold, Map}
+use Rattle.cu_task.specs.Inside.{StandsInside}
+use Rattle.cu_task.specs.OfTask.{IsMadeFrom}
+use Rattle.cu_task.specs.declared.strips.RegionMap.{RegionMap}
+
+abbrev pub IsFold : Op → Type 0
+IsFold (Fold kind axes source out) = Unit {0}
+IsFold op = ⊥
+
+abbrev pub IsMap : Op → Type 0
+IsMap (Map kernel ins out) = Unit {0}
+IsMap op = ⊥
+
+-- the outer task folds what the inner one, a map, makes where it is read
+pub record FoldsMap (outer inner : TaskView) : Type 0 where
+  pub fold : IsFold (task_op outer)
+  pub map : IsMap (task_op inner)
+  pub inside : StandsInside outer (walk_at outer 0) inner
+
+-- what the outer task makes of what the inner one makes of these bytes
+pub record IsMadeThrough (outer inner : TaskView) (inputs output : List ℕ) : Type 0 where
+  pub between : List ℕ
+  pub inner_made : IsMadeFrom inner inputs between
+  pub outer_made : IsMadeFrom outer between output
+
+-- the kernel's value at a place of a result of these sizes
+abbrev pub mapped_at : RegionMap → List ℕ → ℕ → Option ℤ
+mapped_at map dims p = value_by_place map.kernel.now.code.items map.lays.now.items map.inputs.now dims p
+
+-- there is one, a number of this type
+abbrev pub IsNumberOf : Dtype → Option ℤ → Type 0
+IsNumberOf t None = ⊥
+IsNumberOf t (Some x) = InRange t x

@@ -1,0 +1,43 @@
+use Rattle.std.proofs.Common.{ℕ, List, ◌∙◌, arith}
+use Rattle.std.proofs.lemmas.List.{length-set}
+use Rattle.cu_view_box.specs.Block.{buffer_place}
+use Rattle.cu_view_box.specs.Piece.{read_at}
+use Rattle.cu_view_box.proofs.Strided.{next_within, axis_of_part, axis_from, axes_more}
+use Rattle.cu_view_box.proofs.along.write_axes.Goals as goal
+
+pub loop-axis-init : goal.loop-axis-init
+loop-axis-init c = record { long = c.requires.rank; made = λ k d b. absurd (omega arith) }
+
+pub source_place-read-requires-clause-of_piece : goal.source_place-read-requires-clause-of_piece
+source_place-read-requires-clause-of_piece c =
+    c.requires.moves.of_piece c.second_of_row-next.result
+    (next_within c.args.part.now c.loop-axis.axis c.length_of_row-count.result c.second_of_row-next.result c.requires.moves.some c.length_of_row-count.ensures c.second_of_row-next.ensures)
+
+pub source_place-read-requires-clause-of_source : goal.source_place-read-requires-clause-of_source
+source_place-read-requires-clause-of_source c =
+    c.requires.moves.of_source c.second_of_row-next.result
+    (next_within c.args.part.now c.loop-axis.axis c.length_of_row-count.result c.second_of_row-next.result c.requires.moves.some c.length_of_row-count.ensures c.second_of_row-next.ensures)
+
+pub block_place-written-requires-clause-within : goal.block_place-written-requires-clause-within
+block_place-written-requires-clause-within c =
+    c.requires.moves.of_result c.second_of_row-next.result
+    (next_within c.args.part.now c.loop-axis.axis c.length_of_row-count.result c.second_of_row-next.result c.requires.moves.some c.length_of_row-count.ensures c.second_of_row-next.ensures)
+
+pub loop-axis-preserved : goal.loop-axis-preserved
+loop-axis-preserved c =
+    let f : List ℕ → ℕ = λ idx. buffer_place c.args.copying.now.from.now (read_at c.args.copying.now.piece.now idx) in
+    let g : List ℕ → ℕ = λ idx. buffer_place c.args.copying.now.to.now idx in
+    let long = c.loop-axis.invariant.long in
+    let axis = axis_from c.length_of_row-count.result c.stride_to.result c.stride_to-in-loop-axis.result in
+    record {
+      long = length-set c.loop-axis.axes c.loop-axis.axis axis ∙ long;
+      made = axes_more f g c.args.part.now c.loop-axis.axes c.loop-axis.axis axis (omega arith)
+          (axis_of_part f g c.args.part.now c.loop-axis.axis c.length_of_row-count.result c.args.start.from c.args.start.to
+          c.source_place-read.result c.block_place-written.result c.second_of_row-next.result c.stride_to.result c.stride_to-in-loop-axis.result
+          c.length_of_row-count.ensures c.requires.start_from c.requires.start_to c.second_of_row-next.ensures c.source_place-read.ensures c.block_place-written.ensures
+          c.stride_to.ensures c.stride_to-in-loop-axis.ensures)
+          c.loop-axis.invariant.made;
+    }
+
+pub returns-clause-axes : goal.returns-clause-axes
+returns-clause-axes c = λ k d b. c.loop-axis.invariant.made k d (omega arith)
