@@ -10,7 +10,8 @@ round. Each process makes so many passes, and its least time counts: which of th
 the least of all rounds is kept. Both print a sum of what was copied.
 
 The program is written into a copy of the crates that it needs, and `rt run` proves and builds it there. With --keep it is
-kept in that folder, by the sum of its sources, and a later run over the same sources builds nothing.
+kept in that folder, by the sum of its sources, and a later run over the same sources builds nothing. It prints last which of the aims were
+missed.
 """
 import argparse
 import sys
@@ -25,7 +26,8 @@ NAME = "box_bench"
 NEEDS = "cu_num cu_shape cu_box cu_grid cu_codec".split()
 SIDE = 4096
 SIZES, ROWS = (1, 2, 4, 8), (1, 2, 4, 16, 4096)
-WAYS = ("read-little", "read-big", "write-little")
+# At most so much of NumPy's time.
+WAYS = {"read-little": 1.2, "read-big": 1.3, "write-little": 1.2}
 
 SOURCE = """\
 //! Copies the chunks of an array into a region or out of it, and prints the least time of a pass and a checksum.
@@ -362,7 +364,8 @@ def run_ours(program, words):
 
 
 def compare(program, runs, rounds, only):
-    for way in WAYS:
+    missed = []
+    for way, aim in WAYS.items():
         for size in SIZES:
             for columns in ROWS:
                 if only and only not in f"{way}/{size}/{columns}":
@@ -379,6 +382,8 @@ def compare(program, runs, rounds, only):
                     raise SystemExit(f"{way} {size} {columns}: not the same bytes")
                 mine, other = min(ours)[0], min(theirs)[0]
                 print(f"  {way:12} {size} bytes, rows of {columns:4}: {mine * 1e3:8.1f} ms, NumPy {other * 1e3:8.1f} ms, ratio {mine / other:5.2f}", flush=True)
+                missed += [f"{way}/{size}/{columns}: {mine / other:.2f} for {aim}"] if mine / other > aim else []
+    print("missed: " + "; ".join(missed) if missed else "no aim was missed")
 
 
 def main():

@@ -1,7 +1,7 @@
 #!/usr/bin/env python3
 """Computes a day's work on packed int16 data with one worker, and with Dask by one thread over the same chunk files, in one run.
 
-  day.py [--program FILE] [--dir FOLDER].. [--runs N] [--workers N] [--fusion 1|2] [--c] [--python FILE] [--days N] [--only WORD..]
+  day.py [--program FILE] [--dir FOLDER].. [--runs N] [--workers N] [--fusion 1|2] [--c] [--first] [--python FILE] [--days N] [--only WORD..]
 
 The data are days by latitudes by longitudes, [2920,180,360] in chunks of [365,180,90], with a base of [180,360] and a climatology of two
 years. The works: how often each place exceeds its base, counted by int32 and by int8; a sum and a mean over the days without what is
@@ -21,6 +21,9 @@ With --c it measures plain loops in C too (day.c, in this folder), which `cc` co
 go over the same chunk files chunk by chunk with one thread, and put each chunk of the result in place by a
 synced new file that is renamed, as the program does. What they store is compared byte by byte too. The ratio is that of the seconds of the
 processor, in the programs and in the system; its aims are for `--fusion 2`.
+
+With --first and `--fusion 2` it measures `--fusion 1` in the same rounds too. Where nothing is to be made where it is read, both plans
+have the same tasks, and the aim is that the later one takes no longer.
 """
 import argparse
 import itertools
@@ -45,7 +48,9 @@ MISSING, MONTHS = -32768, 12
 # Maps that are put into bins, and maps of which several make a day.
 MAPS, MAP, MAPS_A_CHUNK = 160, [512, 512], 40
 HOURS, HOURS_A_CHUNK, HOURS_A_DAY = 1460, 20, 4
-CUBED, DASK, LOOPS = "cubed", "Dask, one thread", "plain loops in C"
+CUBED, FIRST, DASK, LOOPS = "cubed", "cubed, --fusion 1", "Dask, one thread", "plain loops in C"
+# The works with nothing to make where it is read, and how much of the time by `--fusion 1` they take at most (runs of one swing so much).
+PLAIN, PLAIN_AIM = ("scaled and rounded down", "anomalies", "monthly sums"), 1.05
 
 
 class Work:
@@ -215,12 +220,15 @@ def fusion_words(given):
 
 
 # What each way stores.
-MADE = {CUBED: ("y", "_cubed"), DASK: ("dask",), LOOPS: ("loops",)}
+MADE = {CUBED: ("y", "_cubed"), FIRST: ("y", "_cubed"), DASK: ("dask",), LOOPS: ("loops",)}
 
 
 def measure(given, folder, name, work):
     """Goes through the ways in turn, and compares what they store. Returns what was measured of each."""
-    ways = {CUBED: [given.program, folder, "run", "--workers", str(given.workers), *work.words, *fusion_words(given)]}
+    run = [given.program, folder, "run", "--workers", str(given.workers), *work.words]
+    ways = {CUBED: [*run, *fusion_words(given)]}
+    if given.first and given.fusion > 1:
+        ways[FIRST] = run
     if given.has_dask:
         ways[DASK] = [given.python, os.path.abspath(__file__), "--peer", name, folder]
     if given.loops:
@@ -239,9 +247,11 @@ def measure(given, folder, name, work):
     return told, min(alone)
 
 
-def ratios(given, work, told):
+def ratios(given, name, work, told):
     """Of each peer the ratio of the program to it, by the clock or by the processor, and the aim."""
     found = {}
+    if FIRST in told:
+        found[FIRST] = min(told[CUBED].seconds) / min(told[FIRST].seconds), PLAIN_AIM if name in PLAIN else None
     if DASK in told:
         found[DASK] = min(told[CUBED].seconds) / min(told[DASK].seconds), work.aims[given.fusion]
     if LOOPS in told:
@@ -255,9 +265,11 @@ def tell(given, name, work, told, alone):
     missed = []
     for way, one in told.items():
         print(f"    {way}: {one.row()}")
-    for way, (ratio, aim) in ratios(given, work, told).items():
+    for way, (ratio, aim) in ratios(given, name, work, told).items():
         print(f"    ratio to {way} {ratio:.2f}{f' (aim {aim})' if aim else ''}", end="")
-        if way == DASK:
+        if way == FIRST:
+            print(flush=True)
+        elif way == DASK:
             print(f", of the files alone {alone / min(told[way].seconds):.2f}", flush=True)
         else:
             print(f" ({min(told[CUBED].processor):.3f} and {min(told[way].processor):.3f} s of the processor), by the clock"
@@ -268,11 +280,11 @@ def tell(given, name, work, told, alone):
 
 def table(given, found):
     """Prints what was measured as the rows of a table."""
-    peers = list(dict.fromkeys(way for work, told in found.values() for way in ratios(given, work, told)))
+    peers = list(dict.fromkeys(way for name, (work, told) in found.items() for way in ratios(given, name, work, told)))
     print("  | work | cubed | " + " | ".join(f"ratio to {way} | aim" for way in peers) + " |")
     print("  |---|---|" + "---|---|" * len(peers))
     for name, (work, told) in found.items():
-        cells = [f"{ratio:.2f} | {aim or '-'}" for ratio, aim in ratios(given, work, told).values()]
+        cells = [f"{ratio:.2f} | {aim or '-'}" for ratio, aim in ratios(given, name, work, told).values()]
         print(f"  | {name} | {min(told[CUBED].seconds):.3f} s | " + " | ".join(cells) + " |", flush=True)
 
 
@@ -307,6 +319,7 @@ def main():
     words.add_argument("--workers", type=int, default=1, help="how many workers the program has; Dask has one thread")
     words.add_argument("--fusion", type=int, choices=[1, 2], default=1, help="the version of the program's plans")
     words.add_argument("--c", action="store_true", help="measure plain loops in C too")
+    words.add_argument("--first", action="store_true", help="measure `--fusion 1` too")
     words.add_argument("--python", default=sys.executable, help="the Python that has NumPy, Dask, zarr and xarray")
     words.add_argument("--days", type=int, default=DAYS, help="how many days there are; some works are of 2920 alone")
     words.add_argument("--only", nargs="*", help="the works whose names have one of these words")

@@ -7,7 +7,8 @@ The kernels are those that fusion makes: several functions in one, with a litera
 computes them function by function into arrays that stay in the cache. Most are over 65,536 elements. Those named by a
 number are over so few, and tell what a small task costs. `rows` adds one short row to each of an array, and `columns` one
 element to each. Each process takes the least time of 80 samples, and of each case the median of the runs' ratios counts. The results
-must have the same checksum. Both processes run on one processor, with a real-time priority where `chrt` may give one.
+must have the same checksum. Both processes run on one processor, with a real-time priority where `chrt` may give one. It prints last which
+of the aims were missed.
 
 The program that calls `run_kernel` is written into a copy of the crates that it needs, and `rt run` proves and builds it
 there, which takes some minutes. With --keep it is kept in that folder, by the sum of its sources, and a later run over
@@ -58,6 +59,10 @@ KERNELS = {
     "Clipped": ("Int16 Int16 Int16", "Int16",
         "Load 0, Const 7, Two GreaterEqual Int16 0 1, Select 2 0 1, Const 9000, Two LessEqual Int16 3 4, Select 5 3 4"),
 }
+# At most so much of NumPy's time: where a case isn't named, by the beginning of its name. The cases of few elements have no aim.
+AIMS = {"compared": 1.0, "chosen": 0.8, "scaled": 0.6, "mixed": 1.0, "longer": 1.0, "eight_int32": 1.0, "eight_int8": 1.0, "eight_int64": 1.0,
+        "sum": 1.0, "tripled": 1.0, "maximum": 1.0, "minimum": 1.0, "clipped": 1.0}
+SPREAD_AIMS = {"rows": 2.0, "columns": 2.0, "tripled_rows": 2.0, "tripled_columns": 2.0}
 TRUTH = {"Greater", "GreaterEqual", "LessEqual", "NotEqual"}
 
 # The program: `kernels_bench` prints for each case its name, the least nanoseconds, the calls, the elements and a checksum.
@@ -618,6 +623,11 @@ def cases():
             yield word, kind.partition("::")[2], first, second, 4
 
 
+def aim_of(word):
+    """The aim of a case, or none."""
+    return AIMS.get(word) or SPREAD_AIMS.get(word.rpartition("_")[0])
+
+
 def by_program(command):
     found = {}
     for word, nanoseconds, rounds, count, told, done in lines_of(command):
@@ -645,10 +655,13 @@ def main():
                 if own[word][1] != int(told):
                     raise SystemExit(f"{word}: the results differ")
                 ratios.setdefault(word, []).append((own[word][0], float(nanoseconds), own[word][2]))
+    missed = []
     for word, rounds in ratios.items():
-        ratio = statistics.median(own / other for own, other, _ in rounds)
+        ratio, aim = statistics.median(own / other for own, other, _ in rounds), aim_of(word)
         own, other = (min(each[k] for each in rounds) for k in (0, 1))
-        print(f"{word:20} {own:12.0f} ns, NumPy {other:12.0f} ns, {own / rounds[0][2]:8.3f} ns an element, **{ratio:.2f}**")
+        print(f"{word:20} {own:12.0f} ns, NumPy {other:12.0f} ns, {own / rounds[0][2]:8.3f} ns an element, **{ratio:.2f}**{f' (aim {aim})' if aim else ''}")
+        missed += [f"{word}: {ratio:.2f} for {aim}"] if aim and ratio > aim else []
+    print("missed: " + "; ".join(missed) if missed else "no aim was missed")
 
 
 if __name__ == "__main__":

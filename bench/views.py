@@ -1,15 +1,16 @@
 #!/usr/bin/env python3
 """Computes views of int32 arrays of 256 MiB in chunks of 4 MiB with the program and with NumPy chunk by chunk.
 
-  views.py [--program FILE] [--dir FOLDER] [--runs N] [--python FILE] [--mebibytes N] [--only WORD..]
+  views.py [--program FILE] [--dir FOLDER] [--runs N] [--python FILE] [--mebibytes N] [--fusion 1|2] [--only WORD..]
 
 Each view is computed by one operation: a slice with step 1, a concat of two halves, a transposition, a flip, a triangle, a roll, and
 arrays that are made, which are compared with storing such chunks alone. For each chunk of the result NumPy reads each chunk of which it
 needs an element, as the program does.
 
 Then come views along strides, of chunks of [1024,1024], [1M,4], [1M,1], six axes of 12, and maps of [512,512]: an axis of size 1 put in
-behind the last or taken out, other shapes, axes in another order, all axes flipped, and axes stretched. There NumPy copies each chunk once
-into a buffer, and Dask, where --python has it, goes over the same chunk files with one thread.
+behind the last or taken out, other shapes, axes in another order, all axes flipped, and axes stretched. Beside them stand chunks of columns
+changed to chunks of series, and `a + a` in chunks of 1 KiB (of a sixteenth of the bytes). There NumPy copies each chunk once into a buffer,
+and Dask, where --python has it, goes over the same chunk files with one thread (not of chunks of 1 KiB, of which it makes a graph first).
 
 NumPy and the program put each chunk in place by a synced new file that is renamed; Dask writes as zarr does, without a sync. Which comes
 first changes at each round, and the least time of each is kept; the outputs are compared byte by byte. It prints times and ratios, and
@@ -30,8 +31,9 @@ sys.dont_write_bytecode = True
 from stored import (MIB, PROGRAM, can_import, clear, link_as_version_2, metadata, put, same_as_version_2, same_chunks, see_that_it_is_built, store,
                     store_by_dask, tell, timed)
 
-# The views along strides: at most so much of the time of the peers.
+# The views along strides: at most so much of the time of the peers, and of NumPy's where it goes across the cache's lines.
 AIMS = {"numpy": 1.2, "dask": 1.0}
+TURNED = {"numpy": 0.5, "dask": 1.0}
 SIX = [12] * 6
 SIDE = 1024
 CHUNK = SIDE * SIDE
@@ -160,9 +162,11 @@ class Strided:
     """A view of `s`, whose chunks of this shape stand along one axis (`along`): the operator, its members for so many chunks, the view of a
     chunk by NumPy and of the whole by Dask. The result's chunks stand along an axis too (`axis`), and the other way if it is turned."""
 
-    def __init__(self, chunk, op, members, of_chunk, by_dask, along=0, axis=0, is_turned=False):
+    words, has_dask = (), True
+
+    def __init__(self, chunk, op, members, of_chunk, by_dask, along=0, axis=0, is_turned=False, aims=AIMS):
         self.chunk, self.op, self.members, self.of_chunk, self.by_dask = chunk, op, members, of_chunk, by_dask
-        self.along, self.axis, self.is_turned = along, axis, is_turned
+        self.along, self.axis, self.is_turned, self.aims = along, axis, is_turned, aims
 
     def count(self, mebibytes):
         """How many chunks of the result have so many MiB."""
@@ -212,7 +216,63 @@ def broadcast(chunk, axis):
                    broadcast_by_dask(axis), along=axis, axis=axis)
 
 
+class Series:
+    """Chunks of columns changed to chunks of series, as many of the one as of the other at a time."""
+
+    COLUMNS, SERIES, TIMES = [4 * SIDE, SIDE // 4], [SIDE, SIDE], 4
+    words, has_dask, aims = ("--allowed-mem", str(64 * MIB)), True, AIMS
+
+    def count(self, mebibytes):
+        return max(1, mebibytes * MIB // 4 // CHUNK // self.TIMES)
+
+    def make_input(self, folder, count):
+        make_array(folder, "s", [4 * SIDE, SIDE * count], self.COLUMNS)
+
+    def expression(self, count):
+        return viewed("rechunk", "s", chunk=self.SERIES)
+
+    def by_numpy(self, folder, count):
+        start = time.perf_counter()
+        room, region = numpy.empty(self.COLUMNS, "int32"), numpy.empty([4 * SIDE, SIDE], "int32")
+        for number in range(count):
+            for beside in range(self.TIMES):
+                read_chunk(folder, "s", [0, number * self.TIMES + beside], room)
+                region[:, beside * SIDE // 4:(beside + 1) * SIDE // 4] = room
+            for below in range(self.TIMES):
+                put_chunk(folder, [below, number], region[below * SIDE:(below + 1) * SIDE])
+        return time.perf_counter() - start
+
+    def by_dask(self, s):
+        return s.rechunk(tuple(self.SERIES))
+
+
+class Doubled:
+    """`a + a` in chunks of 1 KiB. (What a task costs beside its bytes is most of it.)"""
+
+    ELEMENTS = 256
+    words, has_dask, aims = (), False, AIMS
+
+    def count(self, mebibytes):
+        return mebibytes * MIB // 16 // 1024
+
+    def make_input(self, folder, count):
+        make_array(folder, "s", [self.ELEMENTS * count], [self.ELEMENTS])
+
+    def expression(self, count):
+        return json.dumps({"nodes": [{"id": "s", "op": "input", "name": "s"}, {"id": "r", "op": "add", "args": ["s", "s"]}], "out": "r", "store_as": "y"})
+
+    def by_numpy(self, folder, count):
+        start = time.perf_counter()
+        room, made = numpy.empty(self.ELEMENTS, "int32"), numpy.empty(self.ELEMENTS, "int32")
+        for number in range(count):
+            read_chunk(folder, "s", [number], room)
+            numpy.add(room, room, out=made)
+            put_chunk(folder, [number], made)
+        return time.perf_counter() - start
+
+
 STRIDED = {
+    "permute_dims, [1024,1024] transposed": moved([SIDE, SIDE], "permute_dims", {"axes": [1, 0]}, lambda s: s.T, axis=1, aims=TURNED),
     "expand_dims, [1M,4]": moved([MIB, 4], "expand_dims", {"axis": -1}, lambda s: s[..., None]),
     "expand_dims, [1024,1024]": moved([SIDE, SIDE], "expand_dims", {"axis": -1}, lambda s: s[..., None]),
     "squeeze, [1M,1]": moved([MIB, 1], "squeeze", {"axes": [1]}, lambda s: s[:, 0]),
@@ -224,7 +284,9 @@ STRIDED = {
     "flip of all axes, [1024,1024]": moved([SIDE, SIDE], "flip", {}, lambda s: s[::-1, ::-1], is_turned=True),
     "flip of all axes, six": moved(SIX, "flip", {}, lambda s: s[(slice(None, None, -1),) * 6], is_turned=True),
     "broadcast_to, [12,1] three times": broadcast([12, 1] * 3, 0),
-    "broadcast_to, [1,12] three times": broadcast([1, 12] * 3, 1)}
+    "broadcast_to, [1,12] three times": broadcast([1, 12] * 3, 1),
+    "columns to series": Series(),
+    "a + a in chunks of 1 KiB": Doubled()}
 
 
 # What each way stores.
@@ -245,8 +307,12 @@ def peer_of(given, peer, name, folder, count):
     return [given.python, os.path.abspath(__file__), "--peer", peer, name, folder, str(count)]
 
 
+def fusion_words(given):
+    return ["--fusion", str(given.fusion)] if given.fusion > 1 else []
+
+
 def measure(given, folder, name, text, chunks):
-    commands = {"cubed": [given.program, folder, "run"], "numpy": peer_of(given, "numpy", name, folder, chunks)}
+    commands = {"cubed": [given.program, folder, "run", *fusion_words(given)], "numpy": peer_of(given, "numpy", name, folder, chunks)}
     runs = measured(commands, folder, text, given.runs)
     if not same_chunks(folder, "y", "numpy"):
         raise SystemExit(f"{name}: the chunks of NumPy and of the program differ")
@@ -258,12 +324,13 @@ def measure_strided(given, name, view):
     count = view.count(given.mebibytes)
     with tempfile.TemporaryDirectory(dir=given.dir, prefix="cubed-bench-") as folder:
         view.make_input(folder, count)
-        peers = ["numpy", *(["dask"] if given.has_dask else [])]
-        commands = {"cubed": [given.program, folder, "run"], **{peer: peer_of(given, peer, name, folder, count) for peer in peers}}
+        has_dask = given.has_dask and view.has_dask
+        peers = ["numpy", *(["dask"] if has_dask else [])]
+        commands = {"cubed": [given.program, folder, "run", *view.words, *fusion_words(given)], **{peer: peer_of(given, peer, name, folder, count) for peer in peers}}
         runs = measured(commands, folder, view.expression(count), given.runs)
-        if not same_chunks(folder, "y", "numpy") or given.has_dask and not same_as_version_2(folder, "y", "dask"):
+        if not same_chunks(folder, "y", "numpy") or has_dask and not same_as_version_2(folder, "y", "dask"):
             raise SystemExit(f"{name}: the chunks of the peers and of the program differ")
-    return tell(name, runs, AIMS)
+    return tell(name, runs, view.aims)
 
 
 def run_peer(peer, name, folder, count):
@@ -284,6 +351,7 @@ def main():
     words.add_argument("--runs", type=int, default=5)
     words.add_argument("--python", default=sys.executable)
     words.add_argument("--mebibytes", type=int, default=256, choices=[16, 64, 256])
+    words.add_argument("--fusion", type=int, choices=[1, 2], default=1, help="the version of the program's plans")
     words.add_argument("--only", nargs="*", help="the views whose names have one of these words")
     words.add_argument("--peer", nargs=4, help=argparse.SUPPRESS)
     given = words.parse_args()

@@ -11,8 +11,9 @@ program and the loops sync each file before its rename, Dask writes as zarr does
 and what all store is compared byte by byte.
 
 It prints the least times and the greatest resident memory of each, how many times as fast several workers are as one and as Dask (whose
-time is without Python's start), and several processes of the loops as one, by the least times and round by round, and last which of the
-aims were missed. It does so in memory, where there is such a folder, and on the disk. Dask and zarr must be in --python.
+time is without Python's start), and several processes of the loops as one, by the least times and round by round, how much of this gain
+the workers have, and last which of the aims were missed. It does so in memory, where there is such a folder, and on the disk. Dask and zarr
+must be in --python.
 """
 import argparse
 import functools
@@ -35,8 +36,8 @@ MADE = {ONE: ("y", "_cubed"), MANY: ("y", "_cubed"), DASK: ("dask",), LOOP: ("lo
 CREWS, COPIED = (1, 4, 16), 64
 # By how many times the workers are to be faster than one worker, than one with small tasks, and than Dask.
 AIM, SMALL_AIM, DASK_AIM = 3.2, 2.0, 0.9
-# Of a day's work: at most 0.9 of Dask's time.
-DAY_AIM = 1 / 0.9
+# Of a day's work: at most 0.9 of Dask's time, and at least 0.9 of what as many processes of the plain loops gain over one.
+DAY_AIM, GAIN_AIM = 1 / 0.9, 0.9
 TYPES = {"int32": "<i4", "int64": "<i8"}
 
 
@@ -96,10 +97,6 @@ def works(mebibytes):
 
 def make_inputs(folder, work):
     """Stores arrays of numbers that differ from chunk to chunk, and links them for a zarr that reads version 2 alone."""
-    if isinstance(work, DayWork):
-        import day
-        day.make_inputs(folder, day.DAYS, work.inputs)
-        return
     import numpy
     counts = [-(-length // part) for length, part in zip(work.shape, work.chunk)]
     rng = numpy.random.default_rng(1)
@@ -109,6 +106,14 @@ def make_inputs(folder, work):
         for number, place in enumerate(itertools.product(*map(range, counts))):
             put(os.path.join(folder, name, "c", *map(str, place)), numpy.roll(cells, 4099 * number + 131 * turn).tobytes())
         link_as_version_2(folder, name, TYPES[work.dtype], work.shape, work.chunk)
+
+
+def make_inputs_of_days(folder, works):
+    """Stores what these works read of a day's inputs, once for all."""
+    names = sorted({name for work in works if isinstance(work, DayWork) for name in work.inputs})
+    if names:
+        import day
+        day.make_inputs(folder, day.DAYS, names)
 
 
 class Told:
@@ -149,7 +154,6 @@ def ways_of(given, folder, name, work):
 
 def measure(given, folder, name, work):
     """Goes through the ways in turn, and compares what they store. Returns what was measured of each."""
-    make_inputs(folder, work)
     ways = ways_of(given, folder, name, work)
     told = {way: Told() for way in ways}
     for number in range(given.runs):
@@ -179,6 +183,11 @@ def tell(given, name, work, told):
             print(f"    {told_as(given, many)} beside {told_as(given, way)}: {least:.2f} times as fast (median of the rounds {median:.2f}{f'; aim {aim:.3g}' if aim else ''})", flush=True)
             if least < aim:
                 missed.append(f"{name} beside {way}: {least:.2f} for {aim:.3g}")
+    if LOOPS in told:
+        gained, by_loops = times_as_fast(told[MANY], told[ONE]), times_as_fast(told[LOOPS], told[LOOP])
+        least, median = (own / other for own, other in zip(gained, by_loops))
+        print(f"    the workers' gain beside that of the processes of C: {least:.2f} (median of the rounds {median:.2f}; aim {GAIN_AIM})", flush=True)
+        missed += [f"{name}, gain beside {LOOPS}: {least:.2f} for {GAIN_AIM}"] if least < GAIN_AIM else []
     return missed
 
 
@@ -213,14 +222,19 @@ def measure_in(given, parent):
     """Measures all works in a folder. Returns the aims that were missed."""
     print(f"in {parent}, load {os.getloadavg()[0]:.1f}:", flush=True)
     missed, beside_dask = [], []
-    for name, work in works_of(given).items():
-        if given.only and not any(word in name for word in given.only):
-            continue
-        with tempfile.TemporaryDirectory(dir=parent, prefix="cubed-bench-") as folder:
-            told = measure(given, folder, name, work)
-        missed += tell(given, name, work, told)
-        if DASK in told:
-            beside_dask.append(times_as_fast(told[MANY], told[DASK])[0] > 1)
+    wanted = {name: work for name, work in works_of(given).items() if not given.only or any(word in name for word in given.only)}
+    with tempfile.TemporaryDirectory(dir=parent, prefix="cubed-bench-") as days:
+        make_inputs_of_days(days, wanted.values())
+        for name, work in wanted.items():
+            with tempfile.TemporaryDirectory(dir=parent, prefix="cubed-bench-") as own:
+                folder = days if isinstance(work, DayWork) else own
+                if folder == own:
+                    make_inputs(folder, work)
+                told = measure(given, folder, name, work)
+                clear(folder, itertools.chain(*MADE.values()))
+            missed += tell(given, name, work, told)
+            if DASK in told:
+                beside_dask.append(times_as_fast(told[MANY], told[DASK])[0] > 1)
     if not given.only or "small" in given.only:
         least = small.measure_small(given.program, parent, min(given.runs, 3), [1, given.workers])
         times = least[1] / least[given.workers]

@@ -1,10 +1,10 @@
 #!/usr/bin/env python3
 """Proves and builds the program and the crates that it stands on, side by side, and shows how far it is.
 
-`rt ci` proves those crates, in a copy without their refused edits, for which nobody who only wants the program need wait. What it
-proves is kept on this machine: a run that was broken off goes on where it was, and the merge gate takes it over. It gives a crate one
-processor, so the last crate, which waits for all others, is proved by itself, with all processors, and isn't kept. Where all others
-are kept, `rt ci` proves this one too. Then the program itself is proved and compiled, for a processor of this machine's kind. What is
+`rt ci` proves those crates, in a copy without their refused edits, for which nobody who only wants the program need wait. Some
+toolchains keep on a machine what `rt ci` proved: there a run that was broken off goes on where it was, and the merge gate takes it
+over. It gives a crate one processor, so the last crate, which waits for all others, is proved by itself, with all processors, and
+isn't kept. Where all others are kept, `rt ci` proves this one too. Then the program itself is proved and compiled, for a processor of this machine's kind. What is
 said is in crates/cu_bin/out/build.log.
 usage: tools/prove.py [--jobs N] [--times] [--cpu NAME] [--to FILE]
   --jobs N     on N processors; where it isn't given, on all that there are and that the memory suffices for
@@ -244,7 +244,7 @@ def prove(folder, given):
             status, program = compiled(line, room, given.jobs, given.cpu)
     except KeyboardInterrupt:
         work.stop()
-        sys.stderr.write(f"\ncubed: broken off; {len(work.seconds)} of {len(lines)} crates are proved, and the next call goes on from there\n")
+        sys.stderr.write(f"\ncubed: broken off; {len(work.seconds)} of {len(lines)} crates were proved\n")
         return 130, work
     finally:
         if sys.stderr.isatty():

@@ -1,6 +1,5 @@
 -- What a chunk that was read says of what was held at an earlier moment, and why reading one ends.
-use Rattle.std.proofs.Common.{◌≡◌, ◌≢◌, ℕ, ◌+◌, ◌<◌, ◌≤◌, List, Option, Some, None, Result, Ok, Err, refl, sym, ap, ◌∙◌, subst, inl, inr, arith}
-use Rattle.std.specs.Prelude.{OnOk, IfErr}
+use Rattle.std.proofs.Common.{◌≡◌, ◌≢◌, ℕ, ◌+◌, ◌<◌, ◌≤◌, List, Option, Some, sym, ap, ◌∙◌, subst, inl, inr, arith}
 use Rattle.cu_num.specs.Element.{element_at}
 use Rattle.cu_num.specs.declared.layout.Endian.TheVariants.{Little}
 use Rattle.cu_num.proofs.ElementBytes.{element_at_same}
@@ -10,60 +9,19 @@ use Rattle.cu_grid.specs.Counts.{counts_of}
 use Rattle.cu_grid.specs.Grid.{IsGrid, coordinate_of}
 use Rattle.cu_grid.proofs.Parting.{has_coordinate}
 use Rattle.cu_op.specs.declared.layout.ArrayInfo.{ArrayInfo}
-use Rattle.cu_op.specs.declared.layout.Layout.{Layout}
 use Rattle.cu_expr.specs.declared.inputs.InputInfo.{InputInfo}
 use Rattle.cu_store.specs.Faults.{Rose}
 use Rattle.cu_store.specs.Held.{Contents, Write}
 use Rattle.cu_store.specs.Steps.{Shown, NoChange}
-use Rattle.cu_store.specs.declared.faults.TaskFault.{TaskFault}
-use Rattle.cu_store.specs.declared.faults.TaskFault.TheVariants.{Store, BadChunk as BadPart, NoMemory as NoRoom}
-use Rattle.cu_region.specs.Reading.{bytes_of, key_at, HasChunk, IsChunkReadFault}
-use Rattle.cu_region.specs.Steady.{IsSteady, HoldSame}
-use Rattle.cu_region.proofs.SteadyKeys.{hold_same, same_or_not}
-use Rattle.cu_command.proofs.SeenLemmas.{stepped_then}
+use Rattle.cu_region.specs.Reading.{key_at, HasChunk}
+use Rattle.cu_region.specs.Steady.{IsSteady}
+use Rattle.cu_region.proofs.SteadyKeys.{same_or_not}
+use Rattle.cu_command.specs.Chunks.{HasHeldChunk, IsChunkFault}
 use Rattle.cu_command.specs.Seen.{Stepped}
 use Rattle.cu_command.specs.declared.status.Status.{Status}
 use Rattle.cu_command.specs.declared.status.Status.TheVariants.{BadChunk, DepotFailed, NoMemory}
 use Rattle.cu_check.specs.Arrays.{IsOwnTurn}
-use Rattle.cu_check.specs.Chunks.{input_of, HasHeldChunk, IsReadOnceFault, part_end, IsChunkFault, IsPlaced, HasChunksBelow, HasAllSteady}
-
-pub on_ok : {T E : Type 0} → (r : Result T E) (P Q : Type 0) → (P → Q) → OnOk r P → OnOk r Q
-on_ok (Ok x) P Q f h = f h
-on_ok (Err e) P Q f h = tt
-
-pub if_err : {T E : Type 0} → (r : Result T E) (P Q : E → Type 0) → ((e : E) → P e → Q e) → IfErr r P → IfErr r Q
-if_err (Ok x) P Q f h = tt
-if_err (Err e) P Q f h = f e h
-
--- ---- one chunk
-
--- where its key holds what it held, the chunk is the one that was held
-chunk_then : (info : ArrayInfo) (coord buf : List ℕ) (entry now : Option Contents) → HoldSame (λ key. key ≡ key_at info coord) entry now
-    → HasChunk info coord now buf → HasChunk info coord entry buf
-chunk_then info coord buf None None same has = tt
-chunk_then info coord buf (Some entry) (Some now) same has = λ idx inside here.
-    let e = same (key_at info (quotients idx info.layout.grid.chunk)) (ap (key_at info) here) in
-    rw e at (has idx inside here)
-chunk_then info coord buf None (Some now) same has = absurd same
-chunk_then info coord buf (Some entry) None same has = absurd same
-
-pub held_chunk : (info : ArrayInfo) (coord buf : List ℕ) (old new : Shown) → Stepped NoChange old new → HasChunk info coord new.held buf → HasHeldChunk info coord old buf
-held_chunk info coord buf old new step has entry before steady =
-    chunk_then info coord buf entry.held new.held (hold_same (λ key. key ≡ key_at info coord) steady (stepped_then before step).step) has
-
-pub held_later : (info : ArrayInfo) (coord buf : List ℕ) (old now : Shown) → Stepped NoChange old now → HasHeldChunk info coord now buf → HasHeldChunk info coord old buf
-held_later info coord buf old now step has entry before steady = has entry (stepped_then before step) steady
-
-pub part_fault : (old new : Shown) (l : Layout) (key : List ℕ) (e : TaskFault) → IsChunkReadFault old new (λ k. k ≡ key) (bytes_of l) e → IsReadOnceFault 1 old new l key e
-part_fault old new l key Store h = h
-part_fault old new l key (BadPart bad got want) h = h
-part_fault old new l key NoRoom h = tt
-
--- what the fault is answered by
-pub ended : (tries : ℕ) (old new : Shown) (l : Layout) (key : List ℕ) (e : TaskFault) → IsReadOnceFault tries old new l key e → IsChunkFault tries old new l (λ k. k ≡ key) (part_end key e)
-ended tries old new l key Store h = (refl, h)
-ended tries old new l key (BadPart bad got want) h = h
-ended tries old new l key NoRoom h = tt
+use Rattle.cu_check.specs.Chunks.{input_of, IsPlaced, HasChunksBelow, HasAllSteady}
 
 -- ---- chunk after chunk
 

@@ -30,7 +30,8 @@ use Rattle.cu_command.specs.declared.status.Status.{Status}
 use Rattle.cu_command.specs.declared.status.Status.TheVariants.{BadChunk, DepotFailed, NoMemory, Unequal}
 use Rattle.cu_check.specs.Arrays.{arrays_of_nodes, compared_arrays, HasAllElements, IsReadChunk, IsOwnTurn, IsChunkTurn}
 use Rattle.cu_check.specs.Check.{IsLikeStoredNode, plain_element, IsEqual, IsEqualBelow, AreAt, WhereThere, IsCompareFault}
-use Rattle.cu_check.specs.Chunks.{IsChunkFault, HasAllSteady, HasAllStored}
+use Rattle.cu_check.specs.Chunks.{HasAllSteady, HasAllStored}
+use Rattle.cu_command.specs.Chunks.{IsChunkFault}
 use Rattle.cu_check.specs.Elements.{elements_of}
 use Rattle.cu_check.specs.Plains.{AreReadArrays, IsListFault, AreSameBelow, IsFirstDifference}
 use Rattle.cu_check.specs.declared.compare.Difference.{Difference}

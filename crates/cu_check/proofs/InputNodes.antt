@@ -1,7 +1,6 @@
 -- The arrays of the input nodes, as they were read, and the elements of the input nodes.
-use Rattle.std.proofs.Common.{◌≡◌, ℕ, zero, suc, ◌+◌, ◌<◌, ◌≤◌, true, cond, ℤ, pos, List, [], ◌∷◌, ◌++◌, length, take, drop, get_or, All, Contains, Option, Some, None, Result, Ok, refl, sym, ap, ◌∙◌, subst, inl, inr, append_assoc, arith}
-use Rattle.std.specs.Prelude.{slice_get, count_by, unwrap_or, bytes_eq}
-use Rattle.std.proofs.lemmas.Bool.{cases_Bool}
+use Rattle.std.proofs.Common.{◌≡◌, ℕ, zero, suc, ◌+◌, ◌<◌, ◌≤◌, true, cond, ℤ, pos, List, [], ◌∷◌, ◌++◌, length, take, drop, get_or, All, Contains, Option, Some, None, Result, Ok, refl, sym, ap, ◌∙◌, subst, append_assoc, arith}
+use Rattle.std.specs.Prelude.{slice_get, count_by, unwrap_or}
 use Rattle.std.proofs.lemmas.List.{take_more, take-append-drop, drop_more, flat_map_more, append-nil}
 use Rattle.std.proofs.lemmas.List.Concat.{flat_map-append}
 use Rattle.std.proofs.lemmas.List.Elements.{All-nil, All-cons}
@@ -17,6 +16,7 @@ use Rattle.cu_form.specs.declared.form.Form.{Form}
 use Rattle.cu_node.specs.Info.{info_at, no_info}
 use Rattle.cu_node.specs.declared.faults.NodeFault.{NodeFault}
 use Rattle.cu_node.specs.declared.info.NodeInfo.{NodeInfo}
+use Rattle.cu_expr.proofs.NamedLayouts.{known_layout}
 use Rattle.cu_expr.specs.Inputs.{layout_info, named_input, layout_named}
 use Rattle.cu_expr.specs.Typing.{typed_node}
 use Rattle.cu_expr.specs.declared.inputs.InputInfo.{InputInfo}
@@ -26,19 +26,17 @@ use Rattle.cu_mean.specs.Reading.{HasTypeAndShape}
 use Rattle.cu_mean.specs.Whole.{is_input_node, inputs_before, AreInputNodes, HoldsElements, HoldInputs}
 use Rattle.cu_semantics.specs.Argument.{NodeElements}
 use Rattle.cu_op.specs.Layout.{layout_view}
-use Rattle.cu_op.specs.declared.layout.Layout.{Layout}
-use Rattle.cu_store.specs.Faults.{Rose}
 use Rattle.cu_store.specs.Held.{Contents}
 use Rattle.cu_store.specs.Steps.{Shown}
 use Rattle.cu_zarr.specs.Key.{chunk_key_of}
 use Rattle.cu_zarr.specs.Stored.{stored_element}
 use Rattle.cu_region.specs.Steady.{IsSteady}
+use Rattle.cu_command.proofs.ChunkReads.{fault_since}
+use Rattle.cu_command.specs.Chunks.{IsChunkFault}
 use Rattle.cu_command.specs.Stored.{IsArrayChunk}
 use Rattle.cu_command.specs.declared.job.Job.{Job}
 use Rattle.cu_command.specs.declared.status.Status.{Status}
-use Rattle.cu_command.specs.declared.status.Status.TheVariants.{BadChunk, DepotFailed, NoMemory}
 use Rattle.cu_check.specs.Arrays.{form_arrays, node_arrays, arrays_of_nodes, HasAllElements, IsReadChunk, IsOwnTurn, AreChunksSeen, key_of_index, numbered_key}
-use Rattle.cu_check.specs.Chunks.{IsChunkFault}
 use Rattle.cu_check.proofs.ChunkReads.{steady_as}
 use Rattle.cu_check.specs.Elements.{form_element, used_element, elements_of}
 use Rattle.cu_check.specs.Plains.{HasStoredElements, IsReadArray, AreReadArrays, IsListFault}
@@ -65,15 +63,6 @@ pub arrays_split : (inputs : List InputInfo) (nodes : List Node) (k : ℕ) (node
 arrays_split inputs nodes k node below at =
     ap (arrays_of_nodes inputs) (sym (take-append-drop k nodes) ∙ ap (λ (ns : List Node). take k nodes ++ ns) (drop_more nodes k node below ∙ ap (λ (n : Node). n ∷ drop (k + 1) nodes) (sym at)))
     ∙ flat_map-append (node_arrays inputs) (take k nodes) (node ∷ drop (k + 1) nodes)
-
-rose_since : (tries a b c : ℕ) → a ≤ b → Rose tries b c → Rose tries a c
-rose_since tries a b c first rose = omega arith
-
-fault_since : (tries : ℕ) (old mid new : Shown) (l : Layout) (turn : List ℕ → Type 0) (status : Status) → old.faults ≤ mid.faults → IsChunkFault tries mid new l turn status → IsChunkFault tries old new l turn status
-fault_since tries old mid new l turn (DepotFailed key) count f = (f.0, rose_since tries old.faults mid.faults new.faults count f.1)
-fault_since tries old mid new l turn (BadChunk key got want) count f = f
-fault_since tries old mid new l turn NoMemory count f = tt
-fault_since tries old mid new l turn status count f = absurd f
 
 -- the array of this node failed
 pub node_fault : (tries : ℕ) (inputs : List InputInfo) (nodes : List Node) (k : ℕ) (node : Node) (a : InputInfo) (ps : List PlainArray) (old mid new entry : Shown) (status : Status)
@@ -164,15 +153,6 @@ array_count entry inputs (n ∷ ns) ps read =
 input_name : (form : Form) → is_input form ≡ true → (name : List ℕ) × (form ≡ Form.Input name)
 input_name (Form.Input name) test = (name, refl)
 input_name form test = cc
-
--- what typing knows of a name is its layout
-known_layout : (inputs : List InputInfo) (name : List ℕ) → unwrap_or (named_input inputs name) no_info ≡ layout_info (layout_named inputs name)
-known_layout [] name = refl
-known_layout (i ∷ is) name =
-    elim (cases_Bool (bytes_eq name i.name)) [
-      | inl same ↦ rw same refl
-      | inr other ↦ rw other (known_layout is name)
-    ]
 
 -- ---- the arrays as the evaluator takes them
 

@@ -1,8 +1,6 @@
 -- What a layout of a stored array keeps.
-use Rattle.std.proofs.Common.{◌≡◌, ◌↔◌, ℕ, ◌+◌, ◌*◌, max, ◌<◌, ◌≤◌, ◌^◌, Bool, true, false, IsTrue, rules, List, [], ◌∷◌, length, drop, get_or, All, refl, sym, ap, ◌∙◌, inl, inr, arith}
+use Rattle.std.proofs.Common.{ℕ, ◌*◌, max, ◌<◌, ◌≤◌, ◌^◌, rules, List, [], ◌∷◌, All, refl, inl, inr, arith}
 use Rattle.std.specs.Prelude.{bytes_eq}
-use Rattle.std.proofs.lemmas.List.{drop_more}
-use Rattle.std.proofs.lemmas.Slice.Eq.{bytes_eq-Decides}
 use Rattle.std.proofs.lemmas.Bool.{cases_Bool}
 use Rattle.std.proofs.lemmas.List.Elements.{All-head, All-tail, All-nil, All-cons}
 use Rattle.std.proofs.lemmas.Nat.{mul-le}
@@ -81,28 +79,3 @@ named_fits (i ∷ is) name h =
       | inl same ↦ rw same (All-head (λ (x : InputInfo). IsArrayLayout x.layout) i is h)
       | inr other ↦ rw other (named_fits is name (All-tail (λ (x : InputInfo). IsArrayLayout x.layout) i is h))
     ]
-
--- ---- the look-up
-
-pub same_when : (b : Bool) (xs ys : List ℕ) → (IsTrue b ↔ (xs ≡ ys)) → b ≡ true → bytes_eq xs ys ≡ true
-same_when b xs ys h is = (bytes_eq-Decides xs ys).1 (h.0 is)
-
-pub other_when : (b : Bool) (xs ys : List ℕ) → (IsTrue b ↔ (xs ≡ ys)) → b ≡ false → bytes_eq xs ys ≡ false
-other_when b xs ys h is =
-    elim (cases_Bool (bytes_eq xs ys)) [
-      | inl same ↦ let t : b ≡ true = h.1 ((bytes_eq-Decides xs ys).0 same) in let no : true ≡ false = sym t ∙ is in cc
-      | inr other ↦ other
-    ]
-
-pub from_place : (xs : List InputInfo) (k : ℕ) (x : InputInfo) → k < length xs → x ≡ get_or xs k x → drop k xs ≡ x ∷ drop (k + 1) xs
-from_place xs k x below is = drop_more xs k x below ∙ ap (λ y. y ∷ drop (k + 1) xs) (sym is)
-
-pub layout_found : (inputs : List InputInfo) (name : List ℕ) (k : ℕ) (i : InputInfo) → drop k inputs ≡ i ∷ drop (k + 1) inputs → layout_named (drop k inputs) name ≡ layout_named inputs name
-    → bytes_eq name i.name ≡ true → i.layout ≡ layout_named inputs name
-layout_found inputs name k i rest known same =
-    (let first : layout_named (i ∷ drop (k + 1) inputs) name ≡ i.layout = rw same refl in sym first) ∙ ap (λ l. layout_named l name) (sym rest) ∙ known
-
-pub layout_passed : (inputs : List InputInfo) (name : List ℕ) (k : ℕ) (i : InputInfo) → drop k inputs ≡ i ∷ drop (k + 1) inputs → layout_named (drop k inputs) name ≡ layout_named inputs name
-    → bytes_eq name i.name ≡ false → layout_named (drop (k + 1) inputs) name ≡ layout_named inputs name
-layout_passed inputs name k i rest known other =
-    (let behind : layout_named (i ∷ drop (k + 1) inputs) name ≡ layout_named (drop (k + 1) inputs) name = rw other refl in sym behind) ∙ ap (λ l. layout_named l name) (sym rest) ∙ known

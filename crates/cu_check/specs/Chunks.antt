@@ -1,5 +1,5 @@
 -- Arrays that are read chunk by chunk into the bytes of all their elements. This project's own words.
-use Rattle.std.specs.Prelude.{◌≡◌, ◌≢◌, ℕ, ◌<◌, ◌≤◌, List, length, Some}
+use Rattle.std.specs.Prelude.{◌≡◌, ◌≢◌, ℕ, ◌<◌, List, Some}
 use Rattle.cu_num.specs.Dtype.{size_of}
 use Rattle.cu_num.specs.Element.{element_at}
 use Rattle.cu_num.specs.declared.layout.Endian.TheVariants.{Little}
@@ -10,55 +10,17 @@ use Rattle.cu_expr.specs.declared.inputs.InputInfo.{InputInfo}
 use Rattle.cu_op.specs.Layout.{layout_view}
 use Rattle.cu_op.specs.declared.layout.ArrayInfo.{ArrayInfo}
 use Rattle.cu_op.specs.declared.layout.Layout.{Layout}
-use Rattle.cu_store.specs.Faults.{Rose}
 use Rattle.cu_store.specs.Held.{Contents}
 use Rattle.cu_store.specs.Steps.{Shown, NoChange}
-use Rattle.cu_store.specs.declared.faults.TaskFault.{TaskFault}
-use Rattle.cu_store.specs.declared.faults.TaskFault.TheVariants.{Store, BadChunk as BadPart, NoMemory as NoRoom}
 use Rattle.cu_zarr.specs.Stored.{stored_element}
-use Rattle.cu_region.specs.Reading.{bytes_of, key_at, HasChunk}
-use Rattle.cu_region.specs.Steady.{IsSteady, HoldsLength}
+use Rattle.cu_command.specs.Chunks.{IsChunkFault}
 use Rattle.cu_command.specs.Seen.{Stepped}
-use Rattle.cu_command.specs.Stored.{IsArrayLayout}
 use Rattle.cu_command.specs.declared.status.Status.{Status}
-use Rattle.cu_command.specs.declared.status.Status.TheVariants.{BadChunk, DepotFailed, NoMemory}
 use Rattle.cu_check.specs.Arrays.{IsOwnTurn, WhereKeyCalm, key_of_index}
-
--- an array that is read: keys that are short enough, and a layout of a stored array
-pub record IsStoredArray (info : ArrayInfo) : Type 0 where
-  pub short : length info.prefix ≤ 45
-  pub layout : IsArrayLayout info.layout
 
 -- the array with this name and layout
 abbrev pub input_of : ArrayInfo → InputInfo
 input_of info = record { name = info.prefix; layout = info.layout }
-
--- ---- one chunk
-
--- The buffer has the chunk at this coordinate as it was held at any moment since which only late puts landed, where each that was late
--- then on its key carried what was held there.
-abbrev pub HasHeldChunk : ArrayInfo → List ℕ → Shown → List ℕ → Type 0
-HasHeldChunk info coord now buf =
-    (entry : Shown) → Stepped NoChange entry now → IsSteady (λ key. key ≡ key_at info coord) entry.held entry.late → HasChunk info coord entry.held buf
-
--- why reading the chunk under this key ends, where it is tried so often
-abbrev pub IsReadOnceFault : ℕ → Shown → Shown → Layout → List ℕ → TaskFault → Type 0
-IsReadOnceFault tries old new l key Store = Rose tries old.faults new.faults
-IsReadOnceFault tries old new l key (BadPart bad got want) = (bad ≡ key) × (want ≡ bytes_of l) × (got ≢ want) × HoldsLength new.held bad got
-IsReadOnceFault tries old new l key NoRoom = Unit {0}
-
--- what is answered where reading the chunk under this key ends so
-abbrev pub part_end : List ℕ → TaskFault → Status
-part_end key Store = DepotFailed key
-part_end key (BadPart bad got want) = BadChunk bad got want
-part_end key NoRoom = NoMemory
-
--- why reading an array ends, where this holds of the key of the chunk that was read last
-abbrev pub IsChunkFault : ℕ → Shown → Shown → Layout → (List ℕ → Type 0) → Status → Type 0
-IsChunkFault tries old new l turn (DepotFailed key) = turn key × Rose tries old.faults new.faults
-IsChunkFault tries old new l turn (BadChunk key got want) = turn key × (want ≡ bytes_of l) × (got ≢ want) × HoldsLength new.held key got
-IsChunkFault tries old new l turn NoMemory = Unit {0}
-IsChunkFault tries old new l turn status = ⊥
 
 -- ---- the bytes of all elements
 

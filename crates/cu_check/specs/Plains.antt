@@ -13,7 +13,7 @@ use Rattle.cu_store.specs.Steps.{Shown}
 use Rattle.cu_zarr.specs.Stored.{stored_element}
 use Rattle.cu_command.specs.declared.status.Status.{Status}
 use Rattle.cu_check.specs.Arrays.{IsOwnTurn, WhereKeyCalm, key_of_index}
-use Rattle.cu_check.specs.Chunks.{IsChunkFault}
+use Rattle.cu_command.specs.Chunks.{IsChunkFault}
 use Rattle.cu_check.specs.declared.compare.Difference.{Difference}
 
 -- the numbers are the first elements of these bytes, so many

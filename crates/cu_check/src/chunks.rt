@@ -6,62 +6,18 @@ ghost use Rattle.cu_grid.specs.Counts.{counts_of};
 ghost use Rattle.cu_grid.specs.Grid.{IsCoordinate, coordinate_of};
 ghost use Rattle.cu_region.specs.Reading.{bytes_of, key_at};
 ghost use Rattle.cu_store.specs.Steps.{Shown, NoChange};
+ghost use Rattle.cu_command.specs.Chunks.{IsStoredArray, IsChunkFault};
 ghost use Rattle.cu_command.specs.Seen.{Stepped, WithinCalls};
 ghost use Rattle.cu_check.specs.Arrays.{input_chunk_count};
-ghost use Rattle.cu_check.specs.Chunks.{IsStoredArray, input_of, HasHeldChunk, IsReadOnceFault, part_end, IsChunkFault, IsPlaced, HasChunksBelow, HasAllSteady, AtEachEntry, IsArrayFault};
+ghost use Rattle.cu_check.specs.Chunks.{input_of, IsPlaced, HasChunksBelow, HasAllSteady, AtEachEntry, IsArrayFault};
 
-use cu_codec::{chunk_key, take_part};
-use cu_command::Status;
+use cu_codec::take_part;
+use cu_command::{Status, read_stored_chunk};
 use cu_grid::Region;
 use cu_num::{Endian, size};
 use cu_op::{ArrayInfo, Layout};
-use cu_region::read_chunk;
 use cu_shape::{Dims, difference};
-use cu_store::{Depot, InDepot, Key, TaskFault};
-
-/// Reads a chunk once.
-fn read_once<D: Depot>(
-    depot: &mut D,
-    info: &ArrayInfo,
-    coord: &Dims,
-    chunk: &mut [u8],
-) -> Result<(), TaskFault>
-    requires readable { IsStoredArray info.now }
-    requires coordinate { IsCoordinate info.now.layout.grid coord.now }
-    requires chunk_length { length chunk.old ≡ bytes_of info.now.layout }
-    ensures read { OnOk result (HasHeldChunk info.now coord.now (D.shown depot.old) chunk.new) }
-    ensures step { Stepped NoChange (D.shown depot.old) (D.shown depot.new) }
-    ensures cause { IfErr result (IsReadOnceFault 1 (D.shown depot.old) (D.shown depot.new) info.now.layout (key_at info.now coord.now)) }
-    ensures calls { WithinCalls 1 (D.shown depot.old) (D.shown depot.new) }
-{
-    let _grid = info.layout.grid.shape();
-    read_chunk::<InDepot<D>>(&(), depot, info, coord, chunk)
-}
-
-/// Reads a chunk, again where the store failed.
-fn read_tries<D: Depot>(
-    depot: &mut D,
-    info: &ArrayInfo,
-    coord: &Dims,
-    retries: u32,
-    chunk: &mut [u8],
-) -> Result<(), TaskFault>
-    requires readable { IsStoredArray info.now }
-    requires coordinate { IsCoordinate info.now.layout.grid coord.now }
-    requires chunk_length { length chunk.old ≡ bytes_of info.now.layout }
-    ensures read { OnOk result (HasHeldChunk info.now coord.now (D.shown depot.old) chunk.new) }
-    ensures step { Stepped NoChange (D.shown depot.old) (D.shown depot.new) }
-    ensures cause { IfErr result (IsReadOnceFault (retries + 1) (D.shown depot.old) (D.shown depot.new) info.now.layout (key_at info.now coord.now)) }
-    ensures calls { WithinCalls (retries + 1) (D.shown depot.old) (D.shown depot.new) }
-{
-    for _ in 0..retries {
-        match read_once(depot, info, coord, chunk) {
-            Err(TaskFault::Store) => {}
-            ended => return ended,
-        }
-    }
-    read_once(depot, info, coord, chunk)
-}
+use cu_store::Depot;
 
 /// Copies the elements of a chunk to their places among the bytes of the whole array.
 fn place_chunk(layout: &Layout, coord: &Dims, chunk: &[u8], all: &mut [u8])
@@ -86,21 +42,6 @@ fn place_chunk(layout: &Layout, coord: &Dims, chunk: &[u8], all: &mut [u8])
     );
 }
 
-/// What is answered where reading the chunk under this key ends so.
-fn part_end(fault: &TaskFault, key: &Key) -> Status
-    ensures { result ≡ part_end key.now fault.now }
-{
-    match fault {
-        TaskFault::Store => Status::DepotFailed { key: *key },
-        TaskFault::BadChunk { key, got, want } => Status::BadChunk {
-            key: *key,
-            got: *got,
-            want: *want,
-        },
-        TaskFault::NoMemory => Status::NoMemory,
-    }
-}
-
 /// Reads chunk number `number`, row-major, and copies its elements to their places.
 fn read_numbered<D: Depot>(
     depot: &mut D,
@@ -121,15 +62,12 @@ fn read_numbered<D: Depot>(
     ensures calls { WithinCalls (retries + 1) (D.shown depot.old) (D.shown depot.new) }
 {
     let coord = info.layout.grid.coordinate(number);
-    match read_tries(depot, info, &coord, retries, chunk) {
+    match read_stored_chunk(depot, info, &coord, retries, chunk) {
         Ok(()) => {
             place_chunk(&info.layout, &coord, chunk, all);
             Ok(())
         }
-        Err(fault) => {
-            let key = chunk_key(&info.prefix, info.layout.encoding, &coord);
-            Err(part_end(&fault, &key))
-        }
+        Err(status) => Err(status),
     }
 }
 

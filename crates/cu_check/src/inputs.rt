@@ -3,52 +3,19 @@ ghost use Rattle.std.specs.Prelude.{◌≡◌, ◌+◌, ◌*◌, ◌++◌, ◌�
 ghost use Rattle.cu_form.specs.Expression.{IsExpression};
 ghost use Rattle.cu_form.specs.Form.{in_ranges};
 ghost use Rattle.cu_expr.specs.declared.inputs.InputInfo.{InputInfo as Input};
-ghost use Rattle.cu_op.specs.Arrays.{no_array};
 ghost use Rattle.cu_store.specs.Steps.{Shown, NoChange};
 ghost use Rattle.cu_command.specs.Seen.{Stepped, WithinCalls};
 ghost use Rattle.cu_command.specs.Stored.{IsArrayLayout};
 ghost use Rattle.cu_check.specs.Arrays.{form_arrays, arrays_of_nodes, chunks_of_all};
 ghost use Rattle.cu_check.specs.Chunks.{IsArrayFault};
 ghost use Rattle.cu_check.specs.Plains.{AreReadArrays, IsListFault};
-ghost use Rattle.cu_expr.specs.Inputs.{layout_named};
 
 use crate::arrays::read_plain;
 use cu_command::Status;
-use cu_expr::{Expr, Form, InputInfo};
-use cu_grid::Grid;
+use cu_expr::{Expr, Form, InputInfo, layout_named};
 use cu_mean::Plain;
-use cu_name::IdText;
-use cu_num::{Dtype, Encoding, Endian, Sep};
-use cu_op::Layout;
-use cu_shape::Dims;
 use cu_store::Depot;
 use std::alloc::Global;
-
-/// The layout of an array that means nothing: a bool of rank 0.
-fn no_layout() -> Layout
-    ensures { result ≡ no_array.layout }
-{
-    let none = Dims::make(&[]).unwrap();
-    Layout {
-        dtype: Dtype::Bool,
-        grid: Grid::make_middle(none, none),
-        encoding: Encoding::Plain(Sep::Slash),
-        endian: Endian::Little,
-        fill: 0,
-    }
-}
-
-/// The layout of the first input with this name.
-fn named_layout(inputs: &[InputInfo], name: &IdText) -> Layout
-    ensures { result ≡ layout_named inputs.now name.now }
-{
-    for input in inputs {
-        if name.is(&input.name) {
-            return input.layout;
-        }
-    }
-    no_layout()
-}
 
 /// Reads the array of a node and adds it, where the node is an input.
 fn read_node<D: Depot>(
@@ -72,7 +39,7 @@ fn read_node<D: Depot>(
     };
     let array = InputInfo {
         name: *name,
-        layout: named_layout(inputs, name),
+        layout: layout_named(inputs, name),
     };
     let plain = match read_plain(alloc, depot, &array, retries) {
         Ok(plain) => plain,

@@ -1,3 +1,4 @@
+pub mod ChunkReads
 pub mod InputLemmas
 pub mod JobLemmas
 pub mod NameLemmas

@@ -1,3 +1,4 @@
+pub mod Chunks
 pub mod Inputs
 pub mod Job
 pub mod Keys

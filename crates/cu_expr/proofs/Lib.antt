@@ -3,6 +3,7 @@ mod Examples
 pub mod Kernels
 pub mod LayoutInfo
 pub mod Maps
+pub mod NamedLayouts
 pub mod Nodes
 pub mod ToldArguments
 mod ToldSteps

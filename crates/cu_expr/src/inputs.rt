@@ -1,12 +1,16 @@
 ghost use Rattle.std.specs.Prelude.{◌≡◌, ℕ, List, IfOk, OnOk, Some, bytes_eq, if◌then◌else◌};
 ghost use Rattle.std.specs.HashMap.{get_by_text};
 ghost use Rattle.cu_node.specs.Info.{no_info};
-ghost use Rattle.cu_expr.specs.Inputs.{layout_info, named_input, stored_of};
+ghost use Rattle.cu_op.specs.Arrays.{no_array};
+ghost use Rattle.cu_expr.specs.Inputs.{layout_info, named_input, stored_of, layout_named};
 
 use cu_form::Form;
+use cu_grid::Grid;
 use cu_name::IdText;
 use cu_node::{NodeInfo, info_at};
+use cu_num::{Dtype, Encoding, Endian, Sep};
 use cu_op::Layout;
+use cu_shape::Dims;
 use std::alloc::{AllocError, Global};
 use std::collections::HashMap;
 
@@ -15,6 +19,32 @@ use std::collections::HashMap;
 pub struct InputInfo {
     pub name: IdText,
     pub layout: Layout,
+}
+
+/// The layout of an array that means nothing: a bool of rank 0.
+fn no_layout() -> Layout
+    ensures { result ≡ no_array.layout }
+{
+    let none = Dims::make(&[]).unwrap();
+    Layout {
+        dtype: Dtype::Bool,
+        grid: Grid::make_middle(none, none),
+        encoding: Encoding::Plain(Sep::Slash),
+        endian: Endian::Little,
+        fill: 0,
+    }
+}
+
+/// The layout of the first input with this name; where none has it, that of an array that means nothing.
+pub fn layout_named(inputs: &[InputInfo], name: &IdText) -> Layout
+    ensures { result ≡ layout_named inputs.now name.now }
+{
+    for input in inputs {
+        if name.is(&input.name) {
+            return input.layout;
+        }
+    }
+    no_layout()
 }
 
 /// What is known of a stored array: the type, shape and chunk shape of its metadata.

@@ -11,7 +11,7 @@ mod views;
 pub use cu_form::{Arg, ElementOp, Expr, Form, IndexItem, Items, Literal, Node};
 pub use cu_node::NodeInfo;
 pub use cu_num::FoldKind;
-pub use inputs::InputInfo;
+pub use inputs::{InputInfo, layout_named};
 pub use laws::{grid_law, input_law, map_law, typing_law};
 pub use types::{TypeFault, TypeRefused, Types};
 pub use typing::type_of;

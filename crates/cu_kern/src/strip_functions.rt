@@ -2,13 +2,14 @@
 ghost use Rattle.std.specs.Prelude.{length, true, false};
 ghost use Rattle.cu_kern.specs.Strips.{strip, IsCall, HasArguments, HasResults};
 
+use crate::by_type::call_by_type;
 use crate::calls::Call;
 use crate::comparisons::{
     pair_equal, pair_greater, pair_greater_equal, pair_less, pair_less_equal, pair_not_equal,
 };
 use crate::reciprocals::divide_by_type;
 use crate::strip_loops::{
-    astype_by_types, extreme_by_type, one_by_type, pair_by_type, select_by_type,
+    astype_by_types, extreme_by_steps, one_by_type, pair_by_type, select_by_type,
 };
 use crate::strips::Strip;
 use cu_num::{Dtype, Fn1, Fn2};
@@ -260,12 +261,14 @@ fn select(t: Dtype, x: Strip<'_>, y: Strip<'_>, z: Strip<'_>, out: &mut [u8])
     select_by_type(t, x, y, z, out);
 }
 
+/// Which of both is sought stands in each call of a loop: built with a variable in its place, the loops took
+/// ten times as long.
 #[inline(never)]
 fn minimum(t: Dtype, x: Strip<'_>, y: Strip<'_>, out: &mut [u8])
     requires arguments { HasArguments (Call.Extreme true t) (strip x.bytes.now x.step) (strip y.bytes.now y.step) (strip y.bytes.now y.step) (length out.old) }
     ensures { HasResults (Call.Extreme true t) (strip x.entry.bytes.now x.entry.step) (strip y.entry.bytes.now y.entry.step) (strip y.entry.bytes.now y.entry.step) out.new }
 {
-    extreme_by_type(true, t, x, y, out);
+    call_by_type!(extreme_by_steps, [true], t, [x, y, out])
 }
 
 #[inline(never)]
@@ -273,5 +276,5 @@ fn maximum(t: Dtype, x: Strip<'_>, y: Strip<'_>, out: &mut [u8])
     requires arguments { HasArguments (Call.Extreme false t) (strip x.bytes.now x.step) (strip y.bytes.now y.step) (strip y.bytes.now y.step) (length out.old) }
     ensures { HasResults (Call.Extreme false t) (strip x.entry.bytes.now x.entry.step) (strip y.entry.bytes.now y.entry.step) (strip y.entry.bytes.now y.entry.step) out.new }
 {
-    extreme_by_type(false, t, x, y, out);
+    call_by_type!(extreme_by_steps, [false], t, [x, y, out])
 }

@@ -203,17 +203,9 @@ fn by_last_step(t: Dtype, x: Strip<'_>, y: Strip<'_>, z: Strip<'_>, out: &mut [u
     }
 }
 
-/// The least or the greatest of two arguments, with loops for each type.
+/// The least or the greatest of two arguments of one type.
 #[inline(always)]
-pub(crate) fn extreme_by_type(least: bool, t: Dtype, x: Strip<'_>, y: Strip<'_>, out: &mut [u8])
-    requires arguments { HasArguments (Call.Extreme least t) (strip x.bytes.now x.step) (strip y.bytes.now y.step) (strip y.bytes.now y.step) (length out.old) }
-    ensures { HasResults (Call.Extreme least t) (strip x.entry.bytes.now x.entry.step) (strip y.entry.bytes.now y.entry.step) (strip y.entry.bytes.now y.entry.step) out.new }
-{
-    call_by_type!(extreme_by_steps, [least], t, [x, y, out])
-}
-
-#[inline(always)]
-fn extreme_by_steps(least: bool, t: Dtype, x: Strip<'_>, y: Strip<'_>, out: &mut [u8])
+pub(crate) fn extreme_by_steps(least: bool, t: Dtype, x: Strip<'_>, y: Strip<'_>, out: &mut [u8])
     requires arguments { HasArguments (Call.Extreme least t) (strip x.bytes.now x.step) (strip y.bytes.now y.step) (strip y.bytes.now y.step) (length out.old) }
     ensures { HasResults (Call.Extreme least t) (strip x.entry.bytes.now x.entry.step) (strip y.entry.bytes.now y.entry.step) (strip y.entry.bytes.now y.entry.step) out.new }
 {

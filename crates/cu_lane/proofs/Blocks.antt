@@ -7,22 +7,16 @@ use Rattle.std.specs.Simd.Lanes.{put_chunk, zip2, chunk}
 use Rattle.std.proofs.lemmas.List.{take_all}
 use borrow.Rule.Slice.PartMut.{put_mid, post_of}
 
-pub length-put_mid : (a n : ℕ) (xs ys : List ℕ) → length ys ≡ n → a + n ≤ length xs → length (put_mid a n xs ys) ≡ length xs
+length-put_mid : (a n : ℕ) (xs ys : List ℕ) → length ys ≡ n → a + n ≤ length xs → length (put_mid a n xs ys) ≡ length xs
 length-put_mid a n xs ys e h = simp (length-append, length-take, length-drop) (omega arith)
 
-pub below : (a n : ℕ) (xs ys : List ℕ) (k : ℕ) → k < a → a ≤ length xs → get_or (put_mid a n xs ys) k 0 ≡ get_or xs k 0
+below : (a n : ℕ) (xs ys : List ℕ) (k : ℕ) → k < a → a ≤ length xs → get_or (put_mid a n xs ys) k 0 ≡ get_or xs k 0
 below a n xs ys k less h = get_or_append_left (take a xs) (ys ++ post_of a n xs) 0 k (let l = length-take-le a xs h in omega arith) ∙ get_or-take a xs k 0 less
 
-pub inside : (a n : ℕ) (xs ys : List ℕ) (k j : ℕ) → k ≡ a + j → j < length ys → a ≤ length xs → get_or (put_mid a n xs ys) k 0 ≡ get_or ys j 0
+inside : (a n : ℕ) (xs ys : List ℕ) (k j : ℕ) → k ≡ a + j → j < length ys → a ≤ length xs → get_or (put_mid a n xs ys) k 0 ≡ get_or ys j 0
 inside a n xs ys k j e b h =
     get_or-append_right (take a xs) (ys ++ post_of a n xs) a k 0 (length-take-le a xs h) (omega arith)
     ∙ ap (λ i. get_or (ys ++ post_of a n xs) i 0) (let z : k - a ≡ j = omega arith in z) ∙ get_or_append_left ys (post_of a n xs) 0 j b
-
-pub above : (a n : ℕ) (xs ys : List ℕ) (k : ℕ) → length ys ≡ n → a + n ≤ k → a + n ≤ length xs → get_or (put_mid a n xs ys) k 0 ≡ get_or xs k 0
-above a n xs ys k e b h =
-    get_or-append_right (take a xs) (ys ++ post_of a n xs) a k 0 (length-take-le a xs (omega arith)) (omega arith)
-    ∙ get_or-append_right ys (post_of a n xs) n (k - a) 0 e (omega arith)
-    ∙ get_or-drop n (drop a xs) (k - a - n) 0 ∙ get_or-drop a xs (n + (k - a - n)) 0 ∙ ap (λ i. get_or xs i 0) (let z : a + (n + (k - a - n)) ≡ k = omega arith in z)
 
 -- eight lanes of a slice
 pub lane : (xs : List ℕ) (from n j : ℕ) → j < n → get_or (take n (drop from xs)) j 0 ≡ get_or xs (from + j) 0

@@ -1,4 +1,3 @@
 pub mod Compared
 pub mod Lanes
 pub mod Folds
-pub mod Swapped

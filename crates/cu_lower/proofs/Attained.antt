@@ -17,7 +17,7 @@ use Rattle.cu_lower.specs.Premises.{is_computed, IsComputedNode, IsLowerable, Ne
 use Rattle.cu_lower.specs.declared.options.Options.{Options}
 use Rattle.cu_lower.proofs.Growing.{Front}
 use Rattle.cu_lower.proofs.NodeSteps.{node_own}
-use Rattle.cu_lower.proofs.OperandSteps.{Attain}
+use Rattle.cu_lower.proofs.OutlinedSteps.{Attain}
 use Rattle.cu_lower.proofs.Placed as placed
 use Rattle.cu_lower.proofs.StepLaws.{HaveLaws}
 use Rattle.cu_lower.proofs.Stepped.{first_front, step_operation, step_within}

@@ -160,43 +160,7 @@ once_after live k (n ∷ ns) names once =
 pub names_once : (e : Expression) → IsOnce (input_names e)
 names_once e = once_after (is_live e) 0 e.nodes [] (λ a b la lb same. absurd (omega arith))
 
--- ---- the layout of a name
-
--- what typing knows of a name is its layout
-pub named_layout : (inputs : List InputInfo) (name : List ℕ) → unwrap_or (named_input inputs name) no_info ≡ layout_info (layout_named inputs name)
-named_layout [] name = refl
-named_layout (i ∷ is) name =
-    elim (cases_Bool (bytes_eq name i.name)) [
-      | inl same ↦ rw same refl
-      | inr other ↦ rw other (named_layout is name)
-    ]
-
 -- ---- the code's tests and loops
-
--- what a comparison of texts tells
-pub same_when : (b : Bool) (xs ys : List ℕ) → (IsTrue b ↔ (xs ≡ ys)) → b ≡ true → bytes_eq xs ys ≡ true
-same_when b xs ys h is = (bytes_eq-Decides xs ys).1 (h.0 is)
-
-pub other_when : (b : Bool) (xs ys : List ℕ) → (IsTrue b ↔ (xs ≡ ys)) → b ≡ false → bytes_eq xs ys ≡ false
-other_when b xs ys h is =
-    elim (cases_Bool (bytes_eq xs ys)) [
-      | inl same ↦ let t : b ≡ true = h.1 (same_text xs ys same) in let no : true ≡ false = sym t ∙ is in cc
-      | inr other ↦ other
-    ]
-
--- a list from a place on
-pub from_place : {A : Type 0} (xs : List A) (k : ℕ) (x : A) → k < length xs → x ≡ get_or xs k x → drop k xs ≡ x ∷ drop (k + 1) xs
-from_place xs k x below is = drop_more xs k x below ∙ ap (λ y. y ∷ drop (k + 1) xs) (sym is)
-
-pub layout_found : (inputs : List InputInfo) (name : List ℕ) (k : ℕ) (i : InputInfo) → drop k inputs ≡ i ∷ drop (k + 1) inputs → layout_named (drop k inputs) name ≡ layout_named inputs name
-    → bytes_eq name i.name ≡ true → i.layout ≡ layout_named inputs name
-layout_found inputs name k i rest known same =
-    (let first : layout_named (i ∷ drop (k + 1) inputs) name ≡ i.layout = rw same refl in sym first) ∙ ap (λ l. layout_named l name) (sym rest) ∙ known
-
-pub layout_passed : (inputs : List InputInfo) (name : List ℕ) (k : ℕ) (i : InputInfo) → drop k inputs ≡ i ∷ drop (k + 1) inputs → layout_named (drop k inputs) name ≡ layout_named inputs name
-    → bytes_eq name i.name ≡ false → layout_named (drop (k + 1) inputs) name ≡ layout_named inputs name
-layout_passed inputs name k i rest known other =
-    (let behind : layout_named (i ∷ drop (k + 1) inputs) name ≡ layout_named (drop (k + 1) inputs) name = rw other refl in sym behind) ∙ ap (λ l. layout_named l name) (sym rest) ∙ known
 
 pub place_found : (names : List (List ℕ)) (name : List ℕ) (k : ℕ) (x : List ℕ) → drop k names ≡ x ∷ drop (k + 1) names
     → k + position_or_len (bytes_eq name) (drop k names) ≡ position_or_len (bytes_eq name) names → bytes_eq name x ≡ true → k ≡ position_or_len (bytes_eq name) names

@@ -11,6 +11,7 @@ pub mod AlongTypes
 pub mod AlongValues
 pub mod Behind
 pub mod OperandSteps
+pub mod OutlinedSteps
 pub mod CopiedSteps
 pub mod Needs
 pub mod TypedForms

@@ -4,7 +4,6 @@ use Rattle.cu_copy.specs.Copies.{is_misaligned, rechunk_cells, rechunk_tasks, re
 use Rattle.cu_copy.specs.declared.copies.Rechunk.{Rechunk}
 use Rattle.cu_num.specs.Dtype.{InRange}
 use Rattle.cu_num.specs.declared.folds.FoldKind.TheVariants.{Sum}
-use Rattle.cu_num.specs.declared.types.Dtype.TheVariants.{Int64}
 use Rattle.cu_shape.specs.Index.{IsInside}
 use Rattle.cu_reduce.specs.Folds.{reduced_to}
 use Rattle.cu_reduce.specs.Labels.{grouped_to}
@@ -17,16 +16,14 @@ use Rattle.cu_op.specs.declared.layout.ArrayInfo.{ArrayInfo}
 use Rattle.cu_form.specs.declared.form.Form.{Form}
 use Rattle.cu_origin.specs.declared.pull.Pull.{Pull as View}
 use Rattle.cu_tree.specs.Marks.{sought_axes}
-use Rattle.cu_tree.specs.Needs.{fold_need, merge_need, pair_fold_need, pair_merge_need, product_need}
-use Rattle.cu_tree.specs.Partials.{first_partial, reduction_rounds, product_partial, product_rounds, chunks_written, chunks_before}
-use Rattle.cu_tree.specs.Sums.{cumulative_need, cumulative_chunks}
+use Rattle.cu_tree.specs.Outlines.{cumulative_outline, product_outline, reduction_outline, search_outline}
 use Rattle.cu_lower_reduce.specs.Cumulative.{cumulative_steps, IsCumulative}
 use Rattle.cu_lower_reduce.specs.Grouped.{grouped_steps, labelled_line, IsGrouped}
 use Rattle.cu_lower_reduce.specs.Partials.{IsSetting}
 use Rattle.cu_lower_reduce.specs.Products.{product_steps, inner_products, IsProduct}
 use Rattle.cu_lower_reduce.specs.Reductions.{reduction_steps, reduced_indices, IsReduction}
-use Rattle.cu_lower_reduce.specs.Searches.{search_steps, value_chunk_bytes, IsSearch}
-use Rattle.cu_lower_reduce.specs.Steps.{HasInfo, HaveEach, HaveInfos, IsGiven, all_made, AreSteps, SolveSteps, last_made, with_merges, ComeTo}
+use Rattle.cu_lower_reduce.specs.Searches.{search_steps, IsSearch}
+use Rattle.cu_lower_reduce.specs.Steps.{HasInfo, HaveEach, HaveInfos, IsGiven, all_made, AreSteps, SolveSteps, last_made, ComeTo}
 use Rattle.cu_lower_reduce.specs.Copies.{aligned_places, aligned_steps, copy_steps, AreCopies, AreOperands, IsStaged}
 use Rattle.cu_lower_reduce.specs.declared.copy.CopySetting.{CopySetting}
 use Rattle.cu_lower_reduce.specs.declared.cumulative.Cumulative.{Cumulative}
@@ -42,9 +39,7 @@ pub record ReductionLaw : Type 0 where
   pub steps : (arrays : List ArrayInfo) (s : Setting) (x : Reduction) → IsSetting s → IsReduction x → HasInfo arrays x.source x.from → HaveInfos arrays s.first (all_made (reduction_steps s x))
       → AreSteps arrays s.reserved (x.source ∷ []) s.first s.first (reduction_steps s x)
   pub sizes : (s : Setting) (x : Reduction) → IsSetting s → IsReduction x
-      → ComeTo (with_merges (reduction_rounds x.axes s.split_every x.from) (fold_need s.reserved (chunk_bytes x.from) (chunk_bytes x.made)) (merge_need s.reserved s.split_every (chunk_bytes x.made)))
-      (chunks_written (first_partial x.made.dtype x.axes x.from) (reduction_rounds x.axes s.split_every x.from) x.made)
-      (chunks_written (first_partial x.made.dtype x.axes x.from) (reduction_rounds x.axes s.split_every x.from) x.made) x.made (reduction_steps s x)
+      → ComeTo s.reserved (reduction_outline s.split_every x.made x.from x.axes) x.made (reduction_steps s x)
   pub value : (arrays : List ArrayInfo) (at : Elements) (s : Setting) (x : Reduction) → IsSetting s → IsReduction x → HasInfo arrays x.source x.from → HaveInfos arrays s.first (all_made (reduction_steps s x))
       → SolveSteps arrays at (reduction_steps s x) → ((i : List ℕ) (y : ℤ) → IsInside x.from.dims i → at x.source i ≡ Some y → InRange x.from.dtype y)
       → (idx : List ℕ) → IsInside x.made.dims idx
@@ -54,10 +49,7 @@ pub record SearchLaw : Type 0 where
   pub steps : (arrays : List ArrayInfo) (s : Setting) (x : Search) → IsSetting s → IsSearch x → HasInfo arrays x.source x.from → HaveInfos arrays s.first (all_made (search_steps s x))
       → AreSteps arrays s.reserved (x.source ∷ []) s.first s.first (search_steps s x)
   pub sizes : (s : Setting) (x : Search) → IsSetting s → IsSearch x
-      → ComeTo (with_merges (reduction_rounds (sought_axes x.axis) s.split_every x.from) (pair_fold_need s.reserved (chunk_bytes x.from) (value_chunk_bytes x) (chunk_bytes x.made)) (pair_merge_need s.reserved s.split_every (value_chunk_bytes x) (chunk_bytes x.made)))
-      (chunks_written (first_partial Int64 (sought_axes x.axis) x.from) (reduction_rounds (sought_axes x.axis) s.split_every x.from) x.made)
-      (chunks_written (first_partial Int64 (sought_axes x.axis) x.from) (reduction_rounds (sought_axes x.axis) s.split_every x.from) x.made
-      + chunks_before (first_partial x.from.dtype (sought_axes x.axis) x.from) (reduction_rounds (sought_axes x.axis) s.split_every x.from)) x.made (search_steps s x)
+      → ComeTo s.reserved (search_outline s.split_every x.made x.from (sought_axes x.axis)) x.made (search_steps s x)
   pub value : (arrays : List ArrayInfo) (at : Elements) (s : Setting) (x : Search) → IsSetting s → IsSearch x → HasInfo arrays x.source x.from → HaveInfos arrays s.first (all_made (search_steps s x))
       → SolveSteps arrays at (search_steps s x) → (idx : List ℕ) → IsInside x.made.dims idx
       → at (last_made s.first (search_steps s x)) idx
@@ -67,9 +59,7 @@ pub record ProductLaw : Type 0 where
   pub steps : (arrays : List ArrayInfo) (s : Setting) (x : Product) → IsSetting s → IsProduct x → HasInfo arrays x.left x.left_info → HasInfo arrays x.right x.right_info
       → HaveInfos arrays s.first (all_made (product_steps s x)) → AreSteps arrays s.reserved (x.left ∷ x.right ∷ []) s.first s.first (product_steps s x)
   pub sizes : (s : Setting) (x : Product) → IsSetting s → IsProduct x
-      → ComeTo (with_merges (product_rounds s.split_every x.left_info x.made) (product_need s.reserved (chunk_bytes x.left_info) (chunk_bytes x.right_info) (chunk_bytes x.made)) (merge_need s.reserved s.split_every (chunk_bytes x.made)))
-      (chunks_written (product_partial x.left_info x.made) (product_rounds s.split_every x.left_info x.made) x.made)
-      (chunks_written (product_partial x.left_info x.made) (product_rounds s.split_every x.left_info x.made) x.made) x.made (product_steps s x)
+      → ComeTo s.reserved (product_outline s.split_every x.made x.left_info (chunk_bytes x.left_info) (chunk_bytes x.right_info)) x.made (product_steps s x)
   pub value : (arrays : List ArrayInfo) (at : Elements) (s : Setting) (x : Product) → IsSetting s → IsProduct x → HasInfo arrays x.left x.left_info → HasInfo arrays x.right x.right_info
       → HaveInfos arrays s.first (all_made (product_steps s x)) → SolveSteps arrays at (product_steps s x)
       → (idx : List ℕ) → IsInside x.made.dims idx
@@ -79,7 +69,7 @@ pub record CumulativeLaw : Type 0 where
   pub steps : (arrays : List ArrayInfo) (s : Setting) (x : Cumulative) → IsSetting s → IsCumulative x → x.source < s.first → HasInfo arrays x.source x.from → HaveInfos arrays s.first (all_made (cumulative_steps s x))
       → AreSteps arrays s.reserved (x.source ∷ []) s.first s.first (cumulative_steps s x)
   pub sizes : (s : Setting) (x : Cumulative) → IsSetting s → IsCumulative x
-      → ComeTo (cumulative_need s.reserved s.split_every x.made x.from x.axis) (cumulative_chunks s.split_every x.made x.from x.axis) (cumulative_chunks s.split_every x.made x.from x.axis) x.made (cumulative_steps s x)
+      → ComeTo s.reserved (cumulative_outline s.split_every x.made x.from x.axis) x.made (cumulative_steps s x)
   pub value : (arrays : List ArrayInfo) (at : Elements) (s : Setting) (x : Cumulative) → IsSetting s → IsCumulative x → HasInfo arrays x.source x.from → HaveInfos arrays s.first (all_made (cumulative_steps s x))
       → SolveSteps arrays at (cumulative_steps s x) → (idx : List ℕ) → IsInside x.made.dims idx
       → at (last_made s.first (cumulative_steps s x)) idx ≡ cumulative x.made.dtype (line_through (at x.source) x.axis idx) (slice_index idx x.axis)
@@ -88,9 +78,7 @@ pub record GroupedLaw : Type 0 where
   pub steps : (arrays : List ArrayInfo) (s : Setting) (x : Grouped) → IsSetting s → IsGrouped x → HasInfo arrays x.source x.source_info → HasInfo arrays x.labels x.labels_info
       → HaveInfos arrays s.first (all_made (grouped_steps s x)) → AreSteps arrays s.reserved (x.source ∷ x.labels ∷ []) s.first s.first (grouped_steps s x)
   pub sizes : (s : Setting) (x : Grouped) → IsSetting s → IsGrouped x
-      → ComeTo (with_merges (product_rounds s.split_every x.labels_info x.made) (product_need s.reserved (chunk_bytes x.source_info) (chunk_bytes x.labels_info) (chunk_bytes x.made)) (merge_need s.reserved s.split_every (chunk_bytes x.made)))
-      (chunks_written (product_partial x.labels_info x.made) (product_rounds s.split_every x.labels_info x.made) x.made)
-      (chunks_written (product_partial x.labels_info x.made) (product_rounds s.split_every x.labels_info x.made) x.made) x.made (grouped_steps s x)
+      → ComeTo s.reserved (product_outline s.split_every x.made x.labels_info (chunk_bytes x.source_info) (chunk_bytes x.labels_info)) x.made (grouped_steps s x)
   pub value : (arrays : List ArrayInfo) (at : Elements) (s : Setting) (x : Grouped) → IsSetting s → IsGrouped x → HasInfo arrays x.source x.source_info → HasInfo arrays x.labels x.labels_info
       → HaveInfos arrays s.first (all_made (grouped_steps s x)) → SolveSteps arrays at (grouped_steps s x)
       → ((i : List ℕ) (y : ℤ) → IsInside x.source_info.dims i → at x.source i ≡ Some y → InRange x.source_info.dtype y)

@@ -25,7 +25,7 @@ use Rattle.cu_lower_view.specs.Typed.{typed_as_view, IsTypedView}
 use Rattle.cu_lower.specs.Premises.{IsLowerable}
 use Rattle.cu_lower.specs.declared.options.Options.{Options}
 use Rattle.cu_lower.proofs.Arguments.{arrays_told}
-use Rattle.cu_lower.proofs.InputNames.{named_layout}
+use Rattle.cu_expr.proofs.NamedLayouts.{known_layout}
 use Rattle.cu_num.specs.declared.folds.FoldKind.{FoldKind}
 use Rattle.cu_typing.specs.Along.{typed_cumulative, typed_groups}
 use Rattle.cu_typing.specs.Matmul.{typed_matmul}
@@ -130,7 +130,7 @@ module _ (e : Expression) (infos : List NodeInfo) (inputs : List InputInfo) (opt
       let value : NodeInfo → Result NodeInfo NodeFault = λ x. Ok x in
       let t : value (unwrap_or (named_input inputs name) no_info) ≡ value (info_at infos k) = ap (typed_node inputs infos) (sym is) ∙ typed_whole k n at in
       let same : unwrap_or (named_input inputs name) no_info ≡ info_at infos k = cc t in
-      sym same ∙ named_layout inputs name
+      sym same ∙ known_layout inputs name
 
   -- what is known of each node keeps the limits
   pub known_kept : (k : ℕ) → IsInfo (info_at infos k)

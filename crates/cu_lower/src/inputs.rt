@@ -3,45 +3,14 @@
 ghost use Rattle.std.specs.Prelude.{◌≡◌, ◌≤◌, ◌++◌, ◌∷◌, [], ℕ, true, false, IfOk, OnOk, All, map, slice_index_or, bytes_eq, length, if◌then◌else◌};
 ghost use Rattle.std.specs.List.{list_any, position_or_len};
 ghost use Rattle.cu_name.specs.Name.{is_name};
-ghost use Rattle.cu_op.specs.Arrays.{no_array};
 ghost use Rattle.cu_need.specs.Live.{is_live};
 ghost use Rattle.cu_lower.specs.Inputs.{input_array, with_name, input_names};
-ghost use Rattle.cu_expr.specs.Inputs.{layout_named};
 
-use cu_expr::InputInfo;
+use cu_expr::{InputInfo, layout_named};
 use cu_form::{Expr, Form};
-use cu_grid::Grid;
 use cu_name::{IdText, key_of_name};
-use cu_num::{Dtype, Encoding, Endian, Sep};
-use cu_op::{ArrayInfo, Layout};
-use cu_shape::Dims;
+use cu_op::ArrayInfo;
 use std::alloc::{AllocError, Global};
-
-/// The layout of an array that means nothing: a bool of rank 0.
-fn no_layout() -> Layout
-    ensures { result ≡ no_array.layout }
-{
-    let none = Dims::make(&[]).unwrap();
-    Layout {
-        dtype: Dtype::Bool,
-        grid: Grid::make_middle(none, none),
-        encoding: Encoding::Plain(Sep::Slash),
-        endian: Endian::Little,
-        fill: 0,
-    }
-}
-
-/// The layout of the first input with this name.
-fn layout_named(inputs: &[InputInfo], name: &IdText) -> Layout
-    ensures { result ≡ layout_named inputs.now name.now }
-{
-    for input in inputs {
-        if name.is(&input.name) {
-            return input.layout;
-        }
-    }
-    no_layout()
-}
 
 /// The array of the input with this name.
 fn input_array(inputs: &[InputInfo], name: &IdText) -> ArrayInfo

@@ -5,7 +5,8 @@ use Rattle.cu_num.specs.declared.types.Dtype.TheVariants.{Int16, Int32, Int64}
 use Rattle.cu_op.specs.declared.operation.Op.TheVariants.{Carry, Copy, Fold, Merge, PairFold, PairMerge, Mul, Scan, GroupFold}
 use Rattle.cu_node.specs.Info.{info_of}
 use Rattle.cu_copy.specs.Copies.{in_chunks}
-use Rattle.cu_tree.specs.Sums.{cumulative_chunks, cumulative_need}
+use Rattle.cu_tree.specs.Outlines.{cumulative_outline, outline_tasks}
+use Rattle.cu_tree.specs.Sums.{cumulative_need}
 use Rattle.cu_lower_reduce.specs.Copies.{copy_steps}
 use Rattle.cu_lower_reduce.specs.Cumulative.{cumulative_steps}
 use Rattle.cu_lower_reduce.specs.Grouped.{grouped_steps}
@@ -97,10 +98,10 @@ running : cumulative_steps pairs ones
 running = refl
 
 -- 10 tasks for the sums, 10 for what is carried and 5 for the scan
-running_tasks : sum_by step_tasks (cumulative_steps pairs ones) ≡ cumulative_chunks 2 ones.made ones.from 0
+running_tasks : sum_by step_tasks (cumulative_steps pairs ones) ≡ outline_tasks (cumulative_outline 2 ones.made ones.from 0)
 running_tasks = refl
 
-running_count : cumulative_chunks 2 ones.made ones.from 0 ≡ 25
+running_count : outline_tasks (cumulative_outline 2 ones.made ones.from 0) ≡ 25
 running_count = refl
 
 running_need : cumulative_need 0 2 ones.made ones.from 0 ≡ 40

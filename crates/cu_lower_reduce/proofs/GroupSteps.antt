@@ -21,22 +21,19 @@ use Rattle.cu_op.specs.declared.layout.ArrayInfo.{ArrayInfo}
 use Rattle.cu_op.specs.declared.operation.Op.TheVariants.{GroupFold}
 use Rattle.cu_node.specs.Info.{IsInfo, chunk_bytes}
 use Rattle.cu_node.specs.declared.info.NodeInfo.{NodeInfo}
-use Rattle.cu_tree.specs.Needs.{product_need, merge_need}
-use Rattle.cu_tree.specs.Partials.{first_partial, inner_count, product_partial, product_rounds, written_before, chunks_written}
+use Rattle.cu_tree.specs.Needs.{product_need}
+use Rattle.cu_tree.specs.Partials.{first_partial, inner_count, product_partial, product_rounds, written_before}
 use Rattle.cu_tree.specs.declared.round.Round.{Round}
-use Rattle.cu_tree.proofs.Falls.{one_fits}
-use Rattle.cu_tree.proofs.Middles.{of_info, of_product as middle_product}
 use Rattle.cu_tree.proofs.Orders.{of_product}
 use Rattle.cu_tree.proofs.Sizes.{count_few}
 use Rattle.cu_lower_reduce.specs.Grouped.{labels_folded, grouped_steps, IsGrouped}
 use Rattle.cu_lower_reduce.specs.Partials.{IsSetting}
 use Rattle.cu_lower_reduce.specs.Reductions.{merges}
-use Rattle.cu_lower_reduce.specs.Steps.{HasInfo, HaveInfos, all_made, IsGiven, IsStep, AreSteps, with_merges, ComeTo}
+use Rattle.cu_lower_reduce.specs.Steps.{HasInfo, HaveInfos, all_made, IsGiven, IsStep, AreSteps}
 use Rattle.cu_lower_reduce.specs.declared.grouped.Grouped.{Grouped}
 use Rattle.cu_lower_reduce.specs.declared.step.Setting.{Setting}
 use Rattle.cu_lower_reduce.specs.declared.step.Step.{Step}
 use Rattle.cu_lower_reduce.proofs.Chains.{length-merges}
-use Rattle.cu_lower_reduce.proofs.Comings.{chain_comes}
 use Rattle.cu_lower_reduce.proofs.Firsts.{behind}
 use Rattle.cu_lower_reduce.proofs.Folds.{contains_first, written_bytes, merges_last, merges_number}
 use Rattle.cu_lower_reduce.proofs.LastAxis.{axis_alone, longer, has_own, counts_last, chunk_last, longer_squeezed}
@@ -244,20 +241,6 @@ folded_number s x i (r ∷ rs) = let e = merges_number s x.kind x.made s.first i
 
 pub grouped_number : (s : Setting) (x : Grouped) → last_target (grouped_steps s x) + 1 ≡ s.first + length (all_made (grouped_steps s x))
 grouped_number s x = folded_number s x (parts_of_labels x) (product_rounds s.split_every x.labels_info x.made)
-
--- ---- what the steps come to
-
-pub grouped_comes : (s : Setting) (x : Grouped) → IsSetting s → IsGrouped x
-    → ComeTo (with_merges (product_rounds s.split_every x.labels_info x.made) (product_need s.reserved (chunk_bytes x.source_info) (chunk_bytes x.labels_info) (chunk_bytes x.made)) (merge_need s.reserved s.split_every (chunk_bytes x.made)))
-    (chunks_written (parts_of_labels x) (product_rounds s.split_every x.labels_info x.made) x.made)
-    (chunks_written (parts_of_labels x) (product_rounds s.split_every x.labels_info x.made) x.made) x.made (grouped_steps s x)
-grouped_comes s x k h =
-    let short = h.short in
-    let c = same_count x h in
-    let w = count_few x.source_info x.axis h.source h.along in
-    let few : inner_count x.labels_info ≤ 65536 = omega (arith, c, w) in
-    chain_comes s x.kind (labels_axis x) x.made s.first (parts_of_labels x) (product_rounds s.split_every x.labels_info x.made) _ refl refl refl k.several (grouped_turn s x k h).rule
-    (middle_product x.labels_info x.made (labels_kept x h) (labels_rank x h) h.made (omega arith)) (of_info x.made h.made) (one_fits s.split_every (length x.made.dims) (inner_count x.labels_info) k.several few)
 
 -- ---- the steps behind the first
 

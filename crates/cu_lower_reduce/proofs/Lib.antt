@@ -1,7 +1,6 @@
 pub mod Along
 pub mod Carrying
 pub mod Chains
-pub mod Comings
 pub mod Copying
 mod Examples
 pub mod Firsts
@@ -13,15 +12,15 @@ pub mod LastAxis
 pub mod Lasts
 pub mod Multiplied
 pub mod Operands
+pub mod Outlined
 pub mod ProductValues
 pub mod Searching
-pub mod SearchSizes
 pub mod SearchValues
 pub mod Squeezed
 pub mod Standing
 pub mod Stepping
 pub mod SumChains
-pub mod SumComings
+pub mod SumLengths
 pub mod SumTurns
 pub mod SumValues
 pub mod Summing

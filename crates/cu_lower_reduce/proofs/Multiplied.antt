@@ -1,6 +1,6 @@
 -- A product of matrices as the first step, and its merges. The products that are summed stand in an array that no plan has: it has the
 -- product's axes and the inner axis behind them.
-use Rattle.std.proofs.Common.{◌≡◌, ℕ, zero, suc, ◌+◌, ◌-◌, ◌≤◌, List, [], ◌∷◌, ◌++◌, All, length, max, None, Some, refl, ap, sym, ◌∙◌, subst, arith, inl, inr}
+use Rattle.std.proofs.Common.{◌≡◌, ℕ, zero, suc, ◌+◌, ◌≤◌, List, [], ◌∷◌, ◌++◌, All, length, max, None, Some, refl, ap, sym, ◌∙◌, subst, arith, inl, inr}
 use Rattle.std.proofs.lemmas.List.{length-append, append-nil}
 use Rattle.std.proofs.Math.Seq.{get_or-append_seam}
 use Rattle.cu_num.specs.Dtype.{IsInteger}
@@ -13,19 +13,15 @@ use Rattle.cu_op.specs.Aligned.{IsAligned}
 use Rattle.cu_op.specs.declared.layout.ArrayInfo.{ArrayInfo}
 use Rattle.cu_op.specs.declared.operation.Op.TheVariants.{Mul}
 use Rattle.cu_node.specs.declared.info.NodeInfo.{NodeInfo}
-use Rattle.cu_tree.specs.Needs.{product_need, merge_need}
-use Rattle.cu_tree.specs.Partials.{first_partial, inner_count, product_partial, product_rounds, written_before, chunks_written}
+use Rattle.cu_tree.specs.Needs.{product_need}
+use Rattle.cu_tree.specs.Partials.{first_partial, inner_count, product_partial, product_rounds, written_before}
 use Rattle.cu_tree.specs.declared.round.Round.{Round}
-use Rattle.cu_tree.proofs.Falls.{one_fits}
-use Rattle.cu_tree.proofs.Middles.{of_info, of_product as middle_product}
 use Rattle.cu_tree.proofs.Orders.{of_product}
-use Rattle.cu_tree.proofs.Sizes.{count_few}
 use Rattle.cu_lower_reduce.specs.Partials.{IsSetting}
 use Rattle.cu_lower_reduce.specs.Products.{multiplied, product_steps, IsProduct}
-use Rattle.cu_lower_reduce.specs.Steps.{HasInfo, HaveInfos, all_made, IsGiven, IsStep, AreSteps, with_merges, ComeTo}
+use Rattle.cu_lower_reduce.specs.Steps.{HasInfo, HaveInfos, all_made, IsGiven, IsStep, AreSteps}
 use Rattle.cu_lower_reduce.specs.declared.product.Product.{Product}
 use Rattle.cu_lower_reduce.specs.declared.step.Setting.{Setting}
-use Rattle.cu_lower_reduce.proofs.Comings.{chain_comes}
 use Rattle.cu_lower_reduce.proofs.Folds.{contains_first, written_bytes, merges_last, merges_number}
 use Rattle.cu_lower_reduce.proofs.LastAxis.{axis_alone, longer, has_own, counts_last, chunk_last, longer_squeezed}
 use Rattle.cu_lower_reduce.proofs.Lasts.{last_target}
@@ -164,20 +160,3 @@ multiplied_number s x i (r ∷ rs) = let e = merges_number s Sum x.made s.first 
 
 pub product_number : (s : Setting) (x : Product) → last_target (product_steps s x) + 1 ≡ s.first + length (all_made (product_steps s x))
 product_number s x = multiplied_number s x (product_partial x.left_info x.made) (product_rounds s.split_every x.left_info x.made)
-
--- ---- what the steps come to
-
-pub product_comes : (s : Setting) (x : Product) → IsSetting s → IsProduct x
-    → ComeTo (with_merges (product_rounds s.split_every x.left_info x.made) (product_need s.reserved (chunk_bytes x.left_info) (chunk_bytes x.right_info) (chunk_bytes x.made)) (merge_need s.reserved s.split_every (chunk_bytes x.made)))
-    (chunks_written (product_partial x.left_info x.made) (product_rounds s.split_every x.left_info x.made) x.made)
-    (chunks_written (product_partial x.left_info x.made) (product_rounds s.split_every x.left_info x.made) x.made) x.made (product_steps s x)
-product_comes s x k h =
-    let r = h.left_rank in
-    let q = h.left.ranks in
-    let short = h.short in
-    let few : inner_count x.left_info ≤ 65536 = few_of in
-    chain_comes s Sum (axis_alone (length x.made.dims)) x.made s.first (product_partial x.left_info x.made) (product_rounds s.split_every x.left_info x.made) _ refl refl refl k.several (product_turn s x k h).rule
-    (middle_product x.left_info x.made h.left h.left_rank h.made (omega arith)) (of_info x.made h.made) (one_fits s.split_every (length x.made.dims) (inner_count x.left_info) k.several few)
-  where
-    few_of : inner_count x.left_info ≤ 65536
-    few_of = let r = h.left_rank in let q = h.left.ranks in let w = count_few x.left_info (length x.left_info.dims - 1) h.left (omega arith) in rw q w

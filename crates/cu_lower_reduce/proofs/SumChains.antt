@@ -14,7 +14,7 @@ use Rattle.cu_lower_reduce.specs.Partials.{partial_after}
 use Rattle.cu_lower_reduce.specs.declared.cumulative.Cumulative.{Cumulative}
 use Rattle.cu_lower_reduce.specs.declared.step.Setting.{Setting}
 use Rattle.cu_lower_reduce.specs.declared.step.Step.{Step}
-use Rattle.cu_lower_reduce.proofs.SumComings.{length-merges, length-carries, length-summed}
+use Rattle.cu_lower_reduce.proofs.SumLengths.{length-merges, length-carries, length-summed}
 use Rattle.cu_lower_reduce.proofs.Summing.{steps_by}
 use Rattle.cu_node.specs.Info.{chunk_bytes}
 

@@ -1,5 +1,5 @@
 -- The steps that copy arrays into other chunks (this project's own rule): one copy, or two by way of an array between.
-use Rattle.std.specs.Prelude.{◌≡◌, ℕ, ◌+◌, ◌*◌, ◌<◌, ◌≤◌, ◌^◌, Bool, true, false, List, [], ◌∷◌, ◌++◌, All, filter, length, max, None, sum_by, if◌then◌else◌}
+use Rattle.std.specs.Prelude.{◌≡◌, ℕ, ◌+◌, ◌*◌, ◌<◌, ◌≤◌, ◌^◌, true, List, [], ◌∷◌, ◌++◌, All, filter, length, max, None, sum_by, if◌then◌else◌}
 use Rattle.cu_num.specs.Dtype.{size_of}
 use Rattle.cu_shape.specs.Index.{product}
 use Rattle.cu_copy.specs.Chunks.{chunk_count}
@@ -7,9 +7,9 @@ use Rattle.cu_copy.specs.Copies.{IsRechunk, between, greater_chunk, is_misaligne
 use Rattle.cu_copy.specs.declared.copies.Rechunk.{Rechunk}
 use Rattle.cu_grid.specs.Grid.{IsGrid}
 use Rattle.cu_node.specs.declared.info.NodeInfo.{NodeInfo}
-use Rattle.cu_op.specs.declared.operation.Op.{Op}
 use Rattle.cu_op.specs.declared.operation.Op.TheVariants.{Copy}
 use Rattle.cu_rechunk.specs.declared.staging.Staging.{Staging}
+pub use Rattle.cu_lower_reduce.specs.Steps.{is_copy}
 use Rattle.cu_lower_reduce.specs.Steps.{all_made, grid_of, last_made, step_tasks}
 use Rattle.cu_lower_reduce.specs.declared.copy.CopySetting.{CopySetting}
 use Rattle.cu_lower_reduce.specs.declared.step.Step.{Step}
@@ -77,11 +77,6 @@ pub record AreOperands (s : CopySetting) (rs : List Rechunk) : Type 0 where
   pub staged : All (IsStaged s) (filter is_misaligned rs)
 
 -- ---- what copies come to
-
--- the operation is a copy
-abbrev pub is_copy : Op → Bool
-is_copy (Copy region source out) = true
-is_copy op = false
 
 -- a copy that needs at most a chunk and a region of the greatest size
 pub record IsCopyStep (s : CopySetting) (step : Step) : Type 0 where

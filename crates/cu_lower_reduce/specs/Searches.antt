@@ -1,9 +1,7 @@
 -- The steps of a search for places (this project's own rule): in each chunk of the source the least or the greatest elements and their
 -- places are found, and a merge for each round finds the best of them. The last step stores no values.
-use Rattle.std.specs.Prelude.{◌≡◌, ℕ, ◌+◌, ◌*◌, List, [], ◌∷◌, Option, Some, None}
-use Rattle.cu_num.specs.Dtype.{size_of}
+use Rattle.std.specs.Prelude.{◌≡◌, ℕ, ◌+◌, List, [], ◌∷◌}
 use Rattle.cu_num.specs.declared.types.Dtype.TheVariants.{Int64}
-use Rattle.cu_shape.specs.Index.{product}
 use Rattle.cu_reduce.specs.Groups.{HasElements}
 use Rattle.cu_op.specs.Places.{HasPlaceAxis}
 use Rattle.cu_op.specs.Partial.{partial_grid, IsSqueezed}
@@ -12,6 +10,8 @@ use Rattle.cu_node.specs.Info.{IsInfo, chunk_bytes}
 use Rattle.cu_node.specs.declared.info.NodeInfo.{NodeInfo}
 use Rattle.cu_tree.specs.Marks.{sought_axes}
 use Rattle.cu_tree.specs.Needs.{pair_fold_need, pair_merge_need}
+pub use Rattle.cu_tree.specs.Outlines.{stored}
+use Rattle.cu_tree.specs.Outlines.{value_bytes}
 use Rattle.cu_tree.specs.Partials.{first_partial, reduction_rounds, merged, written_before}
 use Rattle.cu_tree.specs.declared.round.Round.{Round}
 use Rattle.cu_lower_reduce.specs.Reductions.{whole_groups}
@@ -22,10 +22,6 @@ use Rattle.cu_lower_reduce.specs.declared.step.Step.{Step}
 
 -- ---- where values are stored: in each step but the last
 
-abbrev pub stored : {A : Type 0} → List Round → A → Option A
-stored [] values = None
-stored (r ∷ rs) values = Some values
-
 -- the number of the places, where the step's first array has this one
 abbrev pub places_number : List Round → ℕ → ℕ
 places_number [] next = next
@@ -33,7 +29,7 @@ places_number (r ∷ rs) next = next + 1
 
 -- the bytes of a chunk of values, which has as many elements as one of the result
 abbrev pub value_chunk_bytes : Search → ℕ
-value_chunk_bytes x = product x.made.chunk * size_of x.from.dtype
+value_chunk_bytes x = value_bytes x.made x.from
 
 -- A merge for each round, from array number `source` on: it has these values, and the next one these places.
 abbrev pub pair_merges : Setting → Search → ℕ → NodeInfo → NodeInfo → List Round → List Step

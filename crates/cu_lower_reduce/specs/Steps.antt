@@ -1,7 +1,7 @@
 -- The steps that a node adds to a plan, and what they keep over the arrays of the plan (this project's own rule).
-use Rattle.std.specs.Prelude.{◌≡◌, ◌⊎◌, ℕ, ◌+◌, ◌-◌, ◌<◌, ◌≤◌, List, [], ◌∷◌, ◌++◌, All, Contains, length, flat_map, sum_by, Option, None, Some}
+use Rattle.std.specs.Prelude.{◌≡◌, ◌⊎◌, ℕ, ◌+◌, ◌-◌, ◌<◌, ◌≤◌, Bool, true, false, List, [], ◌∷◌, All, Contains, length, flat_map}
 use Rattle.std.specs.List.{range_with_len}
-pub use Rattle.cu_tree.specs.Needs.{with_merges}
+pub use Rattle.cu_tree.specs.Outlines.{with_values}
 use Rattle.cu_shape.specs.Counts.{counts_of}
 use Rattle.cu_shape.specs.Index.{product}
 use Rattle.cu_grid.specs.Grid.{RegularGrid}
@@ -15,14 +15,12 @@ use Rattle.cu_op.specs.declared.layout.ArrayInfo.{ArrayInfo}
 use Rattle.cu_op.specs.declared.operation.Op.{Op}
 use Rattle.cu_op.specs.declared.operation.Op.TheVariants.{Copy}
 use Rattle.cu_node.specs.declared.info.NodeInfo.{NodeInfo}
-use Rattle.cu_tree.specs.Partials.{chunks_of, IsMiddle}
+use Rattle.cu_tree.specs.Outlines.{IsOutline}
+use Rattle.cu_tree.specs.Partials.{chunks_of}
+use Rattle.cu_tree.specs.declared.outline.Outlined.{Outlined}
 use Rattle.cu_lower_reduce.specs.declared.step.Step.{Step}
 
 -- ---- the arrays that steps make
-
-abbrev pub with_values : Option NodeInfo → NodeInfo → List NodeInfo
-with_values None made = made ∷ []
-with_values (Some values) made = values ∷ made ∷ []
 
 -- what is known of the arrays that a step makes, values before places, and of those that several make
 abbrev pub made_infos : Step → List NodeInfo
@@ -90,12 +88,26 @@ last_made first steps = first + length (all_made steps) - 1
 
 -- ---- what a node's steps come to
 
--- Steps that make an array of which `made` is known, the last of those that they make. There are at most 33 steps, none needs more than
--- `need` bytes, they have so many tasks, and their arrays, each of which keeps the limits of an array inside a plan, so many chunks.
-pub record ComeTo (need tasks cells : ℕ) (made : NodeInfo) (steps : List Step) : Type 0 where
-  pub ends : (rest : List NodeInfo) × (all_made steps ≡ rest ++ made ∷ [])
-  pub grids : All IsMiddle (all_made steps)
-  pub few : length steps ≤ 33
-  pub needs : All (λ s. s.need ≤ need) steps
-  pub tasks_are : sum_by step_tasks steps ≡ tasks
-  pub cells_are : sum_by chunks_of (all_made steps) ≡ cells
+-- the operation is a copy
+abbrev pub is_copy : Op → Bool
+is_copy (Copy region source out) = true
+is_copy op = false
+
+-- an operation of which this is told, where so many bytes are reserved
+abbrev pub stepped : ℕ → Op → Outlined → Step
+stepped reserved op o = record { op = op; values = o.values; made = o.made; need = reserved + o.bytes }
+
+-- the step is of this outline, and isn't a copy
+abbrev pub IsOutlined : ℕ → Outlined → Step → Type 0
+IsOutlined reserved o s = (s ≡ stepped reserved s.op o) × (is_copy s.op ≡ false)
+
+-- so is each, in order
+abbrev pub AreOutlined : ℕ → List Outlined → List Step → Type 0
+AreOutlined reserved [] [] = Unit {0}
+AreOutlined reserved (o ∷ os) (s ∷ ss) = IsOutlined reserved o s × AreOutlined reserved os ss
+AreOutlined reserved os ss = ⊥
+
+-- Steps of this outline, where so many bytes are reserved, which make an array of which `made` is known.
+pub record ComeTo (reserved : ℕ) (outline : List Outlined) (made : NodeInfo) (steps : List Step) : Type 0 where
+  pub outlined : AreOutlined reserved outline steps
+  pub is_outline : IsOutline made outline

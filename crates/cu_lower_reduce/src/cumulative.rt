@@ -14,8 +14,8 @@ use cu_node::NodeInfo;
 use cu_num::FoldKind;
 use cu_op::Op;
 use cu_tree::{
-    Round, carry_need, cumulative_rounds, fold_need, merge_need, merged, product_need, sought_axes,
-    sums_array, sums_count,
+    Round, carry_bytes, cumulative_rounds, fold_bytes, merge_bytes, merged, product_bytes,
+    sought_axes, sums_array, sums_count,
 };
 
 /// Prefix sums along an axis of an array.
@@ -87,7 +87,7 @@ fn lone_scan(s: &Setting, x: &Cumulative) -> Step
         },
         values: None,
         made: x.made,
-        need: fold_need(s.reserved, from, made),
+        need: s.reserved + fold_bytes(from, made),
     }
 }
 
@@ -109,7 +109,7 @@ fn summed_step(s: &Setting, x: &Cumulative, sums: &NodeInfo) -> Step
         },
         values: None,
         made: *sums,
-        need: fold_need(s.reserved, from, made),
+        need: s.reserved + fold_bytes(from, made),
     }
 }
 
@@ -152,7 +152,7 @@ fn regrouped_step(s: &Setting, axis: u32, sums: &NodeInfo, rounds: &[Round], at:
         },
         values: None,
         made: sums_after(s.split_every, axis, sums, rounds, at + 1),
-        need: merge_need(s.reserved, s.split_every, bytes),
+        need: s.reserved + merge_bytes(s.split_every, bytes),
     }
 }
 
@@ -186,7 +186,7 @@ fn carried_step(s: &Setting, axis: u32, sums: &NodeInfo, rounds: &[Round], at: u
         },
         values: None,
         made: sums_after(s.split_every, axis, sums, rounds, count - at),
-        need: carry_need(s.reserved, s.split_every, bytes),
+        need: s.reserved + carry_bytes(s.split_every, bytes),
     }
 }
 
@@ -211,6 +211,6 @@ fn scanned_step(s: &Setting, x: &Cumulative, sums: &NodeInfo, count: u32) -> Ste
         },
         values: None,
         made: x.made,
-        need: product_need(s.reserved, from, carried, made),
+        need: s.reserved + product_bytes(from, carried, made),
     }
 }

@@ -9,7 +9,7 @@ use crate::step::{Setting, Step};
 use cu_node::NodeInfo;
 use cu_num::FoldKind;
 use cu_op::Op;
-use cu_tree::{Round, product_need, product_partial, product_rounds};
+use cu_tree::{Round, product_bytes, product_partial, product_rounds};
 
 /// A fold of an array by labels, which have the array's chunks along the axis.
 #[derive(Clone, Copy)]
@@ -78,6 +78,6 @@ fn group_step(s: &Setting, x: &Grouped, partial: &NodeInfo, rounds: &[Round]) ->
         },
         values: None,
         made: written_before(rounds, partial, &x.made),
-        need: product_need(s.reserved, source, labels, made),
+        need: s.reserved + product_bytes(source, labels, made),
     }
 }

@@ -16,17 +16,15 @@ ghost use Rattle.cu_op.specs.Elements.{Elements};
 ghost use Rattle.cu_op.specs.Places.{counted_at, pair_part};
 ghost use Rattle.cu_op.specs.declared.layout.ArrayInfo.{ArrayInfo};
 ghost use Rattle.cu_tree.specs.Marks.{sought_axes};
-ghost use Rattle.cu_tree.specs.Needs.{fold_need, merge_need, pair_fold_need, pair_merge_need, product_need};
-ghost use Rattle.cu_tree.specs.Partials.{first_partial, reduction_rounds, product_partial, product_rounds, chunks_written, chunks_before};
-ghost use Rattle.cu_tree.specs.Sums.{cumulative_need, cumulative_chunks};
+ghost use Rattle.cu_tree.specs.Outlines.{cumulative_outline, product_outline, reduction_outline, search_outline};
 ghost use Rattle.cu_lower_reduce.specs.Copies.{aligned_places, aligned_steps, copy_steps, AreCopies, AreOperands, IsStaged};
 ghost use Rattle.cu_lower_reduce.specs.Cumulative.{cumulative_steps, IsCumulative};
 ghost use Rattle.cu_lower_reduce.specs.Grouped.{grouped_steps, labelled_line, IsGrouped};
 ghost use Rattle.cu_lower_reduce.specs.Partials.{IsSetting};
 ghost use Rattle.cu_lower_reduce.specs.Products.{product_steps, inner_products, IsProduct};
 ghost use Rattle.cu_lower_reduce.specs.Reductions.{reduction_steps, reduced_indices, IsReduction};
-ghost use Rattle.cu_lower_reduce.specs.Searches.{value_chunk_bytes, search_steps, IsSearch};
-ghost use Rattle.cu_lower_reduce.specs.Steps.{HasInfo, HaveEach, HaveInfos, IsGiven, all_made, AreSteps, SolveSteps, last_made, with_merges, ComeTo};
+ghost use Rattle.cu_lower_reduce.specs.Searches.{search_steps, IsSearch};
+ghost use Rattle.cu_lower_reduce.specs.Steps.{HasInfo, HaveEach, HaveInfos, IsGiven, all_made, AreSteps, SolveSteps, last_made, ComeTo};
 ghost use Rattle.cu_lower_reduce.specs.declared.copy.CopySetting.{CopySetting};
 ghost use Rattle.cu_lower_reduce.specs.declared.cumulative.Cumulative.{Cumulative};
 ghost use Rattle.cu_lower_reduce.specs.declared.grouped.Grouped.{Grouped};
@@ -46,9 +44,7 @@ pub fn reduction_law()
         → AreSteps arrays s.reserved (x.source ∷ []) s.first s.first (reduction_steps s x) }
     ensures last { (arrays : List ArrayInfo) (s : Setting) (x : Reduction) → HaveInfos arrays s.first (all_made (reduction_steps s x)) → HasInfo arrays (last_made s.first (reduction_steps s x)) x.made }
     ensures sizes { (s : Setting) (x : Reduction) → IsSetting s → IsReduction x
-        → ComeTo (with_merges (reduction_rounds x.axes s.split_every x.from) (fold_need s.reserved (chunk_bytes x.from) (chunk_bytes x.made)) (merge_need s.reserved s.split_every (chunk_bytes x.made)))
-        (chunks_written (first_partial x.made.dtype x.axes x.from) (reduction_rounds x.axes s.split_every x.from) x.made)
-        (chunks_written (first_partial x.made.dtype x.axes x.from) (reduction_rounds x.axes s.split_every x.from) x.made) x.made (reduction_steps s x) }
+        → ComeTo s.reserved (reduction_outline s.split_every x.made x.from x.axes) x.made (reduction_steps s x) }
     ensures value { (arrays : List ArrayInfo) (at : Elements) (s : Setting) (x : Reduction) → IsSetting s → IsReduction x → HasInfo arrays x.source x.from → HaveInfos arrays s.first (all_made (reduction_steps s x))
         → SolveSteps arrays at (reduction_steps s x) → ((i : List ℕ) (y : ℤ) → IsInside x.from.dims i → at x.source i ≡ Some y → InRange x.from.dtype y)
         → (idx : List ℕ) → IsInside x.made.dims idx
@@ -61,9 +57,7 @@ pub fn product_law()
         → HaveInfos arrays s.first (all_made (product_steps s x)) → AreSteps arrays s.reserved (x.left ∷ x.right ∷ []) s.first s.first (product_steps s x) }
     ensures last { (arrays : List ArrayInfo) (s : Setting) (x : Product) → HaveInfos arrays s.first (all_made (product_steps s x)) → HasInfo arrays (last_made s.first (product_steps s x)) x.made }
     ensures sizes { (s : Setting) (x : Product) → IsSetting s → IsProduct x
-        → ComeTo (with_merges (product_rounds s.split_every x.left_info x.made) (product_need s.reserved (chunk_bytes x.left_info) (chunk_bytes x.right_info) (chunk_bytes x.made)) (merge_need s.reserved s.split_every (chunk_bytes x.made)))
-        (chunks_written (product_partial x.left_info x.made) (product_rounds s.split_every x.left_info x.made) x.made)
-        (chunks_written (product_partial x.left_info x.made) (product_rounds s.split_every x.left_info x.made) x.made) x.made (product_steps s x) }
+        → ComeTo s.reserved (product_outline s.split_every x.made x.left_info (chunk_bytes x.left_info) (chunk_bytes x.right_info)) x.made (product_steps s x) }
     ensures value { (arrays : List ArrayInfo) (at : Elements) (s : Setting) (x : Product) → IsSetting s → IsProduct x → HasInfo arrays x.left x.left_info → HasInfo arrays x.right x.right_info
         → HaveInfos arrays s.first (all_made (product_steps s x)) → SolveSteps arrays at (product_steps s x)
         → (idx : List ℕ) → IsInside x.made.dims idx
@@ -77,9 +71,7 @@ pub fn grouped_law()
         → HaveInfos arrays s.first (all_made (grouped_steps s x)) → AreSteps arrays s.reserved (x.source ∷ x.labels ∷ []) s.first s.first (grouped_steps s x) }
     ensures last { (arrays : List ArrayInfo) (s : Setting) (x : Grouped) → HaveInfos arrays s.first (all_made (grouped_steps s x)) → HasInfo arrays (last_made s.first (grouped_steps s x)) x.made }
     ensures sizes { (s : Setting) (x : Grouped) → IsSetting s → IsGrouped x
-        → ComeTo (with_merges (product_rounds s.split_every x.labels_info x.made) (product_need s.reserved (chunk_bytes x.source_info) (chunk_bytes x.labels_info) (chunk_bytes x.made)) (merge_need s.reserved s.split_every (chunk_bytes x.made)))
-        (chunks_written (product_partial x.labels_info x.made) (product_rounds s.split_every x.labels_info x.made) x.made)
-        (chunks_written (product_partial x.labels_info x.made) (product_rounds s.split_every x.labels_info x.made) x.made) x.made (grouped_steps s x) }
+        → ComeTo s.reserved (product_outline s.split_every x.made x.labels_info (chunk_bytes x.source_info) (chunk_bytes x.labels_info)) x.made (grouped_steps s x) }
     ensures value { (arrays : List ArrayInfo) (at : Elements) (s : Setting) (x : Grouped) → IsSetting s → IsGrouped x → HasInfo arrays x.source x.source_info → HasInfo arrays x.labels x.labels_info
         → HaveInfos arrays s.first (all_made (grouped_steps s x)) → SolveSteps arrays at (grouped_steps s x)
         → ((i : List ℕ) (y : ℤ) → IsInside x.source_info.dims i → at x.source i ≡ Some y → InRange x.source_info.dtype y)
@@ -94,10 +86,7 @@ pub fn search_law()
         → AreSteps arrays s.reserved (x.source ∷ []) s.first s.first (search_steps s x) }
     ensures last { (arrays : List ArrayInfo) (s : Setting) (x : Search) → HaveInfos arrays s.first (all_made (search_steps s x)) → HasInfo arrays (last_made s.first (search_steps s x)) x.made }
     ensures sizes { (s : Setting) (x : Search) → IsSetting s → IsSearch x
-        → ComeTo (with_merges (reduction_rounds (sought_axes x.axis) s.split_every x.from) (pair_fold_need s.reserved (chunk_bytes x.from) (value_chunk_bytes x) (chunk_bytes x.made)) (pair_merge_need s.reserved s.split_every (value_chunk_bytes x) (chunk_bytes x.made)))
-        (chunks_written (first_partial Int64 (sought_axes x.axis) x.from) (reduction_rounds (sought_axes x.axis) s.split_every x.from) x.made)
-        (chunks_written (first_partial Int64 (sought_axes x.axis) x.from) (reduction_rounds (sought_axes x.axis) s.split_every x.from) x.made
-        + chunks_before (first_partial x.from.dtype (sought_axes x.axis) x.from) (reduction_rounds (sought_axes x.axis) s.split_every x.from)) x.made (search_steps s x) }
+        → ComeTo s.reserved (search_outline s.split_every x.made x.from (sought_axes x.axis)) x.made (search_steps s x) }
     ensures value { (arrays : List ArrayInfo) (at : Elements) (s : Setting) (x : Search) → IsSetting s → IsSearch x → HasInfo arrays x.source x.from → HaveInfos arrays s.first (all_made (search_steps s x))
         → SolveSteps arrays at (search_steps s x) → (idx : List ℕ) → IsInside x.made.dims idx
         → at (last_made s.first (search_steps s x)) idx
@@ -111,7 +100,7 @@ pub fn cumulative_law()
         → AreSteps arrays s.reserved (x.source ∷ []) s.first s.first (cumulative_steps s x) }
     ensures last { (arrays : List ArrayInfo) (s : Setting) (x : Cumulative) → HaveInfos arrays s.first (all_made (cumulative_steps s x)) → HasInfo arrays (last_made s.first (cumulative_steps s x)) x.made }
     ensures sizes { (s : Setting) (x : Cumulative) → IsSetting s → IsCumulative x
-        → ComeTo (cumulative_need s.reserved s.split_every x.made x.from x.axis) (cumulative_chunks s.split_every x.made x.from x.axis) (cumulative_chunks s.split_every x.made x.from x.axis) x.made (cumulative_steps s x) }
+        → ComeTo s.reserved (cumulative_outline s.split_every x.made x.from x.axis) x.made (cumulative_steps s x) }
     ensures value { (arrays : List ArrayInfo) (at : Elements) (s : Setting) (x : Cumulative) → IsSetting s → IsCumulative x → HasInfo arrays x.source x.from → HaveInfos arrays s.first (all_made (cumulative_steps s x))
         → SolveSteps arrays at (cumulative_steps s x) → (idx : List ℕ) → IsInside x.made.dims idx
         → at (last_made s.first (cumulative_steps s x)) idx ≡ cumulative x.made.dtype (line_through (at x.source) x.axis idx) (slice_index idx x.axis) }

@@ -13,7 +13,7 @@ use cu_node::NodeInfo;
 use cu_num::{Dtype, FoldKind, size};
 use cu_op::Op;
 use cu_shape::Dims;
-use cu_tree::{Round, merge_need, merged};
+use cu_tree::{Round, merge_bytes, merged};
 
 /// The bytes of a chunk of this shape and type.
 pub(crate) fn bytes_of(chunk: &Dims, dtype: Dtype) -> u64
@@ -75,6 +75,6 @@ pub(crate) fn merge_step(
         },
         values: None,
         made: written_before(&rounds[at as usize + 1..], &after, made),
-        need: merge_need(s.reserved, s.split_every, bytes_of(&made.chunk, made.dtype)),
+        need: s.reserved + merge_bytes(s.split_every, bytes_of(&made.chunk, made.dtype)),
     }
 }

@@ -9,7 +9,7 @@ use crate::step::{Setting, Step};
 use cu_node::NodeInfo;
 use cu_num::FoldKind;
 use cu_op::Op;
-use cu_tree::{Round, product_need, product_partial, product_rounds};
+use cu_tree::{Round, product_bytes, product_partial, product_rounds};
 
 /// A product of two arrays, whose chunks are aligned to one another.
 #[derive(Clone, Copy)]
@@ -76,6 +76,6 @@ fn multiply_step(s: &Setting, x: &Product, partial: &NodeInfo, rounds: &[Round])
         },
         values: None,
         made: written_before(rounds, partial, &x.made),
-        need: product_need(s.reserved, left, right, made),
+        need: s.reserved + product_bytes(left, right, made),
     }
 }

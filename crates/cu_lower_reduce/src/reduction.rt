@@ -10,7 +10,7 @@ use cu_node::NodeInfo;
 use cu_num::FoldKind;
 use cu_op::Op;
 use cu_origin::Axes;
-use cu_tree::{Round, first_partial, fold_need, reduction_rounds};
+use cu_tree::{Round, first_partial, fold_bytes, reduction_rounds};
 
 /// A reduction of an array.
 #[derive(Clone, Copy)]
@@ -70,6 +70,6 @@ fn fold_step(s: &Setting, x: &Reduction, partial: &NodeInfo, rounds: &[Round]) -
         },
         values: None,
         made: written_before(rounds, partial, &x.made),
-        need: fold_need(s.reserved, source, made),
+        need: s.reserved + fold_bytes(source, made),
     }
 }

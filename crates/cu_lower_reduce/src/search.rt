@@ -11,7 +11,7 @@ use cu_node::NodeInfo;
 use cu_num::Dtype;
 use cu_op::Op;
 use cu_tree::{
-    Round, first_partial, pair_fold_need, pair_merge_need, reduction_rounds, sought_axes,
+    Round, first_partial, pair_fold_bytes, pair_merge_bytes, reduction_rounds, sought_axes,
 };
 
 /// A search in an array.
@@ -102,7 +102,7 @@ fn first_step(
         },
         values: stored(rounds, *values),
         made: written_before(rounds, places, &x.made),
-        need: pair_fold_need(s.reserved, source, value, place),
+        need: s.reserved + pair_fold_bytes(source, value, place),
     }
 }
 
@@ -139,6 +139,6 @@ fn pair_step(
         },
         values: stored(rest, partial_after(values, rounds, at + 1)),
         made: written_before(rest, &partial_after(places, rounds, at + 1), &x.made),
-        need: pair_merge_need(s.reserved, s.split_every, value, place),
+        need: s.reserved + pair_merge_bytes(s.split_every, value, place),
     }
 }

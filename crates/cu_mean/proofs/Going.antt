@@ -11,7 +11,7 @@ use Rattle.cu_node.specs.Info.{IsInfo, info_at, no_info}
 use Rattle.cu_node.specs.declared.info.NodeInfo.{NodeInfo}
 use Rattle.cu_semantics.specs.Argument.{NodeElements}
 use Rattle.cu_semantics.specs.Meaning.{meaning_of}
-use Rattle.cu_mean.specs.Going.{HasCells, KeepType, AddsComputed, MovesInput, HoldFirst, IsGoing, input_elements}
+use Rattle.cu_mean.specs.Going.{HasFirstElements, KeepType, AddsComputed, MovesInput, HoldFirst, IsGoing, input_elements}
 use Rattle.cu_mean.specs.Node.{is_input, IsElement, IsReadyNode}
 use Rattle.cu_mean.specs.Plain.{PlainArray}
 use Rattle.cu_mean.specs.Whole.{inputs_before, AreInputNodes, HoldsElements, AreTypes}
@@ -26,8 +26,8 @@ use Rattle.cu_semantics.proofs.InType.{meaning_fits}
 -- ---- elements
 
 -- one more
-pub pushed_cells : (form : Form) (infos : List NodeInfo) (info : NodeInfo) (plains : List PlainArray) (place : ℕ) (cells : List ℤ) (x : ℤ) → HasCells form infos info plains place cells
-    → IsElement form infos info plains (index_at info.dims place) x → HasCells form infos info plains (place + 1) (cells ++ x ∷ [])
+pub pushed_cells : (form : Form) (infos : List NodeInfo) (info : NodeInfo) (plains : List PlainArray) (place : ℕ) (cells : List ℤ) (x : ℤ) → HasFirstElements form infos info plains place cells
+    → IsElement form infos info plains (index_at info.dims place) x → HasFirstElements form infos info plains (place + 1) (cells ++ x ∷ [])
 pushed_cells form infos info plains place cells x has is = record {
   count = length-append cells (x ∷ []) ∙ ap (λ n. n + 1) has.count;
   each = below_more (λ q. IsElement form infos info plains (index_at info.dims q) (get_or (cells ++ x ∷ []) q (pos 0))) place
@@ -35,7 +35,7 @@ pushed_cells form infos info plains place cells x has is = record {
       (subst (λ (y : ℤ). IsElement form infos info plains (index_at info.dims place) y) (sym (get_or_push cells x (pos 0) place has.count)) is);
 }
 
-pub no_cells : (form : Form) (infos : List NodeInfo) (info : NodeInfo) (plains : List PlainArray) → HasCells form infos info plains 0 []
+pub no_cells : (form : Form) (infos : List NodeInfo) (info : NodeInfo) (plains : List PlainArray) → HasFirstElements form infos info plains 0 []
 no_cells form infos info plains = record { count = refl; each = λ q lt. absurd (omega arith) }
 
 -- ---- nodes

@@ -15,7 +15,7 @@ use Rattle.cu_semantics.specs.Rule.{rule_of}
 use Rattle.cu_semantics.specs.Typed.{type_of_node}
 use Rattle.cu_semantics.proofs.Earlier.{node_agrees}
 use Rattle.cu_semantics.proofs.Equation.{equation, outside}
-use Rattle.cu_mean.specs.Going.{HasCells, IsEvaluated, HoldFirst, KeepType}
+use Rattle.cu_mean.specs.Going.{HasFirstElements, IsEvaluated, HoldFirst, KeepType}
 use Rattle.cu_mean.specs.Plain.{PlainArray, IsPlain}
 use Rattle.cu_mean.specs.Reading.{plain_at, element_or_zero, elements_in}
 use Rattle.cu_mean.specs.Whole.{HoldsElements}
@@ -88,7 +88,7 @@ meaning_here e infos env n node plains idx is at first inside =
 -- ---- a node that is computed
 
 cell_is : (e : Expression) (infos : List NodeInfo) (env : NodeElements) (n : ℕ) (node : Node) (plains : List PlainArray) (cells : List ℤ) (place : ℕ) → IsExpression e
-    → slice_get e.nodes n ≡ Some node → HoldFirst e infos env n plains → HasCells node.form infos (info_at infos n) plains (product (shape_of_node infos n)) cells
+    → slice_get e.nodes n ≡ Some node → HoldFirst e infos env n plains → HasFirstElements node.form infos (info_at infos n) plains (product (shape_of_node infos n)) cells
     → place < product (shape_of_node infos n) → get_or cells place (pos 0) ≡ meaning_of e infos env n (index_at (shape_of_node infos n) place)
 cell_is e infos env n node plains cells place is at first has below =
     has.each place below env n refl

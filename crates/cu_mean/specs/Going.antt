@@ -16,18 +16,18 @@ use Rattle.cu_mean.specs.Whole.{inputs_before, AreInputNodes, HoldsElements, Are
 -- ---- one node
 
 -- the elements of a node at the first places
-pub record HasCells (form : Form) (infos : List NodeInfo) (info : NodeInfo) (plains : List PlainArray) (places : ℕ) (cells : List ℤ) : Type 0 where
+pub record HasFirstElements (form : Form) (infos : List NodeInfo) (info : NodeInfo) (plains : List PlainArray) (places : ℕ) (cells : List ℤ) : Type 0 where
   pub count : length cells ≡ places
   pub each : (place : ℕ) → place < places → IsElement form infos info plains (index_at info.dims place) (get_or cells place (pos 0))
 
 -- such elements at all places are numbers of the node's type
 abbrev pub KeepType : Form → List NodeInfo → NodeInfo → List PlainArray → Type 0
-KeepType form infos info plains = (cells : List ℤ) → HasCells form infos info plains (product info.dims) cells → All (InRange info.dtype) cells
+KeepType form infos info plains = (cells : List ℤ) → HasFirstElements form infos info plains (product info.dims) cells → All (InRange info.dtype) cells
 
 -- the array has the node's type and shape, and its elements
 pub record IsEvaluated (form : Form) (infos : List NodeInfo) (info : NodeInfo) (plains : List PlainArray) (p : PlainArray) : Type 0 where
   pub same : HasTypeAndShape info p
-  pub cells : HasCells form infos info plains (product info.dims) p.cells
+  pub cells : HasFirstElements form infos info plains (product info.dims) p.cells
 
 -- the node's array was added
 pub record AddsComputed (form : Form) (infos : List NodeInfo) (info : NodeInfo) (old new : List PlainArray) : Type 0 where

@@ -3,7 +3,7 @@ ghost use Rattle.std.specs.Prelude.{◌≡◌, ◌≤◌, ◌<◌, ◌^◌, ◌+
 ghost use Rattle.cu_shape.specs.Index.{product, index_at};
 ghost use Rattle.cu_node.specs.Info.{IsInfo};
 ghost use Rattle.cu_semantics.specs.Argument.{NodeElements};
-ghost use Rattle.cu_mean.specs.Going.{HasCells, KeepType, IsEvaluated, AddsComputed, MovesInput, IsGoing, HoldFirst, input_elements};
+ghost use Rattle.cu_mean.specs.Going.{HasFirstElements, KeepType, IsEvaluated, AddsComputed, MovesInput, IsGoing, HoldFirst, input_elements};
 ghost use Rattle.cu_mean.specs.Node.{IsReadyAt, IsReadyNode};
 ghost use Rattle.cu_mean.specs.Plain.{PlainArray};
 ghost use Rattle.cu_mean.specs.Whole.{AreTypes, AreInputNodes, HoldInputs, HoldMeaning};
@@ -36,8 +36,8 @@ fn push_element(
 ) -> Result<(), AllocError>
     requires ready { IsReadyAt form.now scope.now }
     requires index { scope.now.idx.now ≡ index_at scope.now.info.now.dims place }
-    requires done { HasCells form.now scope.now.infos.now scope.now.info.now scope.now.plains.now place cells.old.items }
-    ensures { OnOk result (HasCells form.now scope.now.infos.now scope.now.info.now scope.now.plains.now (place + 1) cells.new.items) }
+    requires done { HasFirstElements form.now scope.now.infos.now scope.now.info.now scope.now.plains.now place cells.old.items }
+    ensures { OnOk result (HasFirstElements form.now scope.now.infos.now scope.now.info.now scope.now.plains.now (place + 1) cells.new.items) }
 {
     let element = element_at(form, scope);
     cells.push(element)?;
@@ -53,7 +53,7 @@ fn cells_of(
     plains: &[Plain],
 ) -> Result<Vec<i128>, AllocError>
     requires { IsReadyNode form.now infos.now info.now plains.now }
-    ensures { IfOk result (λ cells. HasCells form.now infos.now info.now plains.now (product info.now.dims) cells.items) }
+    ensures { IfOk result (λ cells. HasFirstElements form.now infos.now info.now plains.now (product info.now.dims) cells.items) }
 {
     let count = count_of(info);
     let mut cells = Vec::with_capacity(alloc, count as usize)?;

@@ -3,14 +3,14 @@ use Rattle.std.specs.Prelude.{◌≡◌, ℕ, ◌+◌, ◌≤◌, List, Option, 
 use Rattle.cu_store.specs.Faults.{last_count}
 use Rattle.cu_store.specs.declared.faults.Failed.{Failed}
 
-pub record Reading : Type 0 where
+pub record SourceState : Type 0 where
   -- the bytes that are left
   pub left : List ℕ
   pub fail_at : Option ℕ
   pub calls : ℕ
   pub faults : ℕ
 
-pub record Writing : Type 0 where
+pub record SinkState : Type 0 where
   -- the bytes written
   pub text : List ℕ
   -- how many bytes there is room for in all

@@ -20,9 +20,9 @@ pub struct MemSource {
 
 impl Model for MemSource {
     ghost use Rattle.std.specs.Prelude.{◌≤◌, drop, length};
-    ghost use Rattle.cu_mem.specs.Streams.{Reading};
+    ghost use Rattle.cu_mem.specs.Streams.{SourceState};
 
-    ghost Value = { Reading };
+    ghost Value = { SourceState };
 
     ghost view = { λ s. record { left = drop s.at s.bytes.items; fail_at = s.fail_at; calls = s.calls; faults = s.faults } };
 
@@ -90,9 +90,9 @@ pub struct MemSink {
 impl Model for MemSink {
     ghost use Rattle.std.specs.Prelude.{◌≤◌, vec_len};
     ghost use Rattle.std.specs.Vec.{vec_capacity};
-    ghost use Rattle.cu_mem.specs.Streams.{Writing};
+    ghost use Rattle.cu_mem.specs.Streams.{SinkState};
 
-    ghost Value = { Writing };
+    ghost Value = { SinkState };
 
     ghost view = { λ s. record { text = s.text.items; room = s.room; fail_at = s.fail_at; calls = s.calls; faults = s.faults } };
 

@@ -1,7 +1,6 @@
 -- What typing sees to of prefix sums, and that the labels of groups keep the limits.
-use Rattle.std.proofs.Common.{◌≡◌, ℕ, ◌<◌, ◌≤◌, ◌*◌, ◌^◌, ◌==◌, true, ℤ, List, [], ◌∷◌, length, get_or, All, max, Option, Some, None, Ok, refl, ap, sym, ◌∙◌, subst, arith}
-use Rattle.std.specs.Prelude.{◌&&◌, slice_index, slice_set, unwrap_or}
-use Rattle.std.specs.Int.{div_ceil}
+use Rattle.std.proofs.Common.{◌≡◌, ℕ, ◌<◌, ◌≤◌, ◌*◌, ◌^◌, ◌==◌, true, ℤ, List, [], ◌∷◌, length, All, Option, Some, None, Ok, refl, ap, sym, ◌∙◌, subst, arith}
+use Rattle.std.specs.Prelude.{slice_index, slice_set, unwrap_or}
 use Rattle.std.proofs.lemmas.Bool.{and_parts, eqb-true, le-leb, leb-true}
 use Rattle.std.proofs.lemmas.List.{length-set}
 use Rattle.std.proofs.lemmas.List.Elements.{All-nil, All-cons, All-get_or}
@@ -13,7 +12,7 @@ use Rattle.cu_node.specs.Info.{IsInfo}
 use Rattle.cu_node.specs.Limited.{is_chunk_within}
 use Rattle.cu_node.specs.declared.info.NodeInfo.{NodeInfo}
 use Rattle.cu_typing.specs.Accepted.{IsAcceptedGroups}
-use Rattle.cu_typing.specs.Along.{are_labels, labels_aligned, summed_axis, typed_cumulative, typed_groups}
+use Rattle.cu_typing.specs.Along.{labels_aligned, summed_axis, typed_cumulative, typed_groups}
 use Rattle.cu_typing.proofs.PassedAlong.{cumulative_passed, groups_passed}
 use Rattle.cu_tree.specs.Sums.{IsSummed}
 use Rattle.cu_tree.proofs.Sizes.{count_few}

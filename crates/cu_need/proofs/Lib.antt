@@ -8,6 +8,7 @@ pub mod LiveNodes
 pub mod LiveSteps
 pub mod LoopSteps
 pub mod OperandsWithin
+pub mod Outlined
 pub mod PartialChunks
 pub mod SoughtAxes
 pub mod Staged

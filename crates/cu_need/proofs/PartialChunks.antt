@@ -1,4 +1,4 @@
--- The chunks of partial results, and that their rounds are merges.
+-- The chunks of partial results.
 use Rattle.std.proofs.Common.{◌≡◌, ℕ, suc, ◌+◌, ◌<◌, ◌≤◌, ◌*◌, ◌^◌, Bool, true, false, List, [], ◌∷◌, ◌++◌, length, get_or, All, if◌then◌else◌, refl, ap, sym, ◌∙◌, subst, arith}
 use Rattle.std.proofs.lemmas.Nat.{mul-le}
 use Rattle.std.proofs.lemmas.Bool.{le-leb}
@@ -12,9 +12,7 @@ use Rattle.cu_node.specs.Info.{IsInfo}
 use Rattle.cu_node.specs.Limited.{is_chunk_within}
 use Rattle.cu_node.specs.declared.info.NodeInfo.{NodeInfo}
 use Rattle.cu_typing.specs.Reduction.{kept_size, kept_sizes}
-use Rattle.cu_tree.specs.Partials.{partial_chunk_from, AreMerges}
-use Rattle.cu_tree.specs.Rounds.{AreRounds}
-use Rattle.cu_tree.specs.declared.round.Round.{Round}
+use Rattle.cu_tree.specs.Partials.{partial_chunk_from}
 
 -- ---- a chunk of partial results is at most one of the source
 
@@ -79,10 +77,3 @@ unfolding Marked
 partial_within axes t keepdims marks cs h fits =
     let same = same_elements axes keepdims 0 marks cs (λ i l. subst (λ (d : ℕ). has_axis axes d ≡ get_or marks i false) (let e : i ≡ 0 + i = omega arith in e) (h i l)) in
     le-leb (product (partial_chunk_from axes 0 cs) * size_of t) (2 ^ 28) (rw same fits)
-
--- ---- the rounds of some partial results are merges
-
-pub are_merges : (axes : Axes) (split_every : ℕ) (partial whole : NodeInfo) (rounds all : List Round) → 2 ≤ split_every → AreRounds axes split_every whole.dims all
-    → partial ≡ whole → rounds ≡ all → AreMerges partial rounds
-are_merges axes split_every partial whole rounds all several rule e f =
-    record { axes = axes; split_every = split_every; groups = several; rule = subst (λ (rs : List Round). AreRounds axes split_every partial.dims rs) (sym f) (subst (λ (i : NodeInfo). AreRounds axes split_every i.dims all) (sym e) rule) }

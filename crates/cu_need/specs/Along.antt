@@ -1,4 +1,4 @@
--- The memory of prefix sums and of groups by labels, in bytes, and what is counted of them (this project's own rule). `reserved` are the
+-- The memory of prefix sums and of groups by labels, in bytes (this project's own rule). `reserved` are the
 -- bytes that are kept for everything else, `split_every` is how many partial results a task merges or carries over, `made` and `source`
 -- tell of the node's array and of its first argument's.
 use Rattle.std.specs.Prelude.{ℕ, ℤ, length, Option, unwrap_or}
@@ -7,13 +7,12 @@ use Rattle.cu_node.specs.declared.info.NodeInfo.{NodeInfo}
 use Rattle.cu_typing.specs.Along.{summed_axis, labels_aligned}
 use Rattle.cu_tree.specs.Needs.{with_merges, merge_need, product_need}
 use Rattle.cu_tree.specs.Partials.{product_rounds}
-pub use Rattle.cu_tree.specs.Sums.{sums_array, sums_arrays, sums_count, cumulative_need, cumulative_chunks}
-use Rattle.cu_need.specs.Reduction.{matmul_chunks}
+pub use Rattle.cu_tree.specs.Sums.{sums_array, sums_arrays, sums_count, cumulative_need}
 use Rattle.cu_copy.specs.Copies.{in_chunks, rechunked}
 use Rattle.cu_copy.specs.declared.copies.Rechunk.{Rechunk}
 use Rattle.cu_node.specs.Info.{chunk_bytes}
 
--- ---- prefix sums, whose arrays of sums, memory and chunks are told of where their rounds are
+-- ---- prefix sums, whose arrays of sums and memory are told of where their rounds are
 
 -- the axis along which is summed
 abbrev pub sum_axis : NodeInfo → Option ℤ → ℕ
@@ -36,6 +35,3 @@ group_need reserved split_every made source labels =
     with_merges (product_rounds split_every (rechunked labels) made)
     (product_need reserved (chunk_bytes source) (chunk_bytes (rechunked labels)) (chunk_bytes made))
     (merge_need reserved split_every (chunk_bytes made))
-
-abbrev pub group_chunks : ℕ → NodeInfo → Rechunk → ℕ
-group_chunks split_every made labels = matmul_chunks split_every made (rechunked labels)

@@ -1,7 +1,7 @@
 -- The chunks of a node's array and of an argument's that is aligned to it (this project's own rule).
 use Rattle.std.specs.Prelude.{ℕ, ◌*◌, Bool, List, [], ◌∷◌, bytes_eq}
 use Rattle.cu_form.specs.declared.args.Arg.{Arg}
-use Rattle.cu_node.specs.Info.{info_at, chunk_bytes}
+use Rattle.cu_node.specs.Info.{info_at}
 use Rattle.cu_node.specs.declared.info.NodeInfo.{NodeInfo}
 use Rattle.cu_num.specs.Dtype.{size_of}
 use Rattle.cu_shape.specs.Index.{product}

@@ -22,6 +22,9 @@ own_instructions op = 1
 
 -- The function itself: the greatest chunk as scratch, an aligned chunk of each array, a chunk of the result, and 512 for each
 -- instruction, of which there is one for each argument and those of the function.
+abbrev pub function_bytes : NodeInfo → ℕ → List NodeInfo → ℕ
+function_bytes result instructions arrays =
+    largest (chunk_bytes result ∷ map (aligned_bytes result) arrays) + sum_by (aligned_bytes result) arrays + chunk_bytes result + 512 * instructions
+
 abbrev pub function_need : ℕ → NodeInfo → ℕ → List NodeInfo → ℕ
-function_need reserved result instructions arrays =
-    reserved + largest (chunk_bytes result ∷ map (aligned_bytes result) arrays) + sum_by (aligned_bytes result) arrays + chunk_bytes result + 512 * instructions
+function_need reserved result instructions arrays = reserved + function_bytes result instructions arrays

@@ -5,5 +5,6 @@ pub mod Elementwise
 pub mod Live
 pub mod Need
 pub mod Operands
+pub mod Outline
 pub mod Reduction
 pub mod View

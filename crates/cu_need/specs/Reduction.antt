@@ -1,21 +1,19 @@
--- The memory of reductions, of searches for places and of products of matrices, in bytes, and what is counted of them (this project's own
--- rule). `reserved` are the bytes that are kept for everything else, `split_every` is how many partial results a task merges, `made` and
--- `source` tell of the node's array and of its argument's.
-use Rattle.std.specs.Prelude.{ℕ, ◌+◌, ◌-◌, ◌*◌, false, ℤ, List, length, take, slice_get, replicate, Option, Some, option_and_then, unwrap_or}
-use Rattle.cu_num.specs.Dtype.{size_of}
-use Rattle.cu_shape.specs.Index.{product}
+-- The memory of reductions, of searches for places and of products of matrices, in bytes (this project's own rule). `reserved` are the
+-- bytes that are kept for everything else, `split_every` is how many partial results a task merges, `made` and `source` tell of the
+-- node's array and of its argument's.
+use Rattle.std.specs.Prelude.{ℕ, ◌+◌, ◌-◌, false, ℤ, List, length, take, slice_get, replicate, Option, Some, option_and_then, unwrap_or}
 use Rattle.cu_origin.specs.declared.axes.Axes.{Axes}
 use Rattle.cu_form.specs.declared.args.Arg.{Arg}
 use Rattle.cu_node.specs.Axes.{axis_of}
 use Rattle.cu_node.specs.Info.{info_at, no_info, chunk_bytes}
 use Rattle.cu_node.specs.declared.info.NodeInfo.{NodeInfo}
-use Rattle.cu_num.specs.declared.types.Dtype.TheVariants.{Int64}
 use Rattle.cu_typing.specs.Joined.{aligned_chunk}
 use Rattle.cu_typing.specs.Matmul.{rows, columns, leading_array}
 use Rattle.cu_typing.specs.Reduction.{marks_of}
 use Rattle.cu_tree.specs.Marks.{marked_axes, sought_axes}
 use Rattle.cu_tree.specs.Needs.{with_merges, fold_need, merge_need, pair_fold_need, pair_merge_need, product_need}
-use Rattle.cu_tree.specs.Partials.{first_partial, reduction_rounds, product_partial, product_rounds, chunks_written, chunks_before}
+pub use Rattle.cu_tree.specs.Outlines.{value_bytes}
+use Rattle.cu_tree.specs.Partials.{reduction_rounds, product_rounds}
 use Rattle.cu_copy.specs.Copies.{rechunked}
 use Rattle.cu_copy.specs.declared.copies.Rechunk.{Rechunk}
 
@@ -49,10 +47,6 @@ reduction_need reserved split_every made source axes =
     with_merges (reduction_rounds axes split_every source) (fold_need reserved (chunk_bytes source) (chunk_bytes made))
     (merge_need reserved split_every (chunk_bytes made))
 
--- the bytes of the values of a chunk of places
-abbrev pub value_bytes : NodeInfo → NodeInfo → ℕ
-value_bytes made source = product made.chunk * size_of source.dtype
-
 abbrev pub place_need : ℕ → ℕ → NodeInfo → NodeInfo → Axes → ℕ
 place_need reserved split_every made source axes =
     with_merges (reduction_rounds axes split_every source)
@@ -63,27 +57,6 @@ abbrev pub matmul_need : ℕ → ℕ → NodeInfo → Rechunk → Rechunk → �
 matmul_need reserved split_every made left right =
     with_merges (product_rounds split_every left.source made) (product_need reserved (chunk_bytes (rechunked left)) (chunk_bytes (rechunked right)) (chunk_bytes made))
     (merge_need reserved split_every (chunk_bytes made))
-
--- ---- counts
-
--- the tasks are one for each chunk of each array that an operation goes over, the chunks that are stored those of all arrays
-abbrev pub reduction_chunks : ℕ → NodeInfo → NodeInfo → Axes → ℕ
-reduction_chunks split_every made source axes =
-    chunks_written (first_partial made.dtype axes source) (reduction_rounds axes split_every source) made
-
-abbrev pub place_chunks : ℕ → NodeInfo → NodeInfo → Axes → ℕ
-place_chunks split_every made source axes =
-    chunks_written (first_partial Int64 axes source)
-    (reduction_rounds axes split_every source) made
-
--- the values that are stored beside the places
-abbrev pub value_chunks : ℕ → NodeInfo → Axes → ℕ
-value_chunks split_every source axes =
-    chunks_before (first_partial source.dtype axes source)
-    (reduction_rounds axes split_every source)
-
-abbrev pub matmul_chunks : ℕ → NodeInfo → NodeInfo → ℕ
-matmul_chunks split_every made left = chunks_written (product_partial left made) (product_rounds split_every left made) made
 
 -- ---- operands before the matrix
 

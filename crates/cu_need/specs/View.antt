@@ -20,5 +20,8 @@ is_view (Form.GroupBy least args axis groups) = false
 is_view form = true
 
 -- the greatest chunk as scratch, and a chunk of the result
+abbrev pub view_bytes : NodeInfo → List NodeInfo → ℕ
+view_bytes result sources = largest (chunk_bytes result ∷ map chunk_bytes sources) + chunk_bytes result
+
 abbrev pub view_need : ℕ → NodeInfo → List NodeInfo → ℕ
-view_need reserved result sources = reserved + largest (chunk_bytes result ∷ map chunk_bytes sources) + chunk_bytes result
+view_need reserved result sources = reserved + view_bytes result sources

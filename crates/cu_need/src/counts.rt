@@ -4,21 +4,17 @@ ghost use Rattle.std.specs.Prelude.{◌≡◌, ◌≤◌, ◌^◌, true, All};
 ghost use Rattle.cu_form.specs.Form.{takes_args};
 ghost use Rattle.cu_node.specs.Info.{IsInfo};
 ghost use Rattle.cu_need.specs.Counts.{own_tasks, own_cells, node_tasks, node_cells, plan_counts, over_limit};
+ghost use Rattle.cu_copy.specs.Copies.{IsRechunk};
+ghost use Rattle.cu_need.specs.Operands.{operands_of};
 ghost use Rattle.cu_need.specs.Need.{ArePartialsWithin, IsNodeWithin, AreWithinLimits};
 
-use crate::along::{group_chunks, labels_wanted, sum_axis};
 use crate::copies::copies_counts;
 use crate::live::live_marks;
 use crate::operands::copies_of;
-use crate::reduction::{
-    array_of, axes_reduced, axes_sought, matmul_chunks, place_chunks, reduction_chunks,
-    value_chunks,
-};
-use crate::view::is_view;
-use cu_copy::chunk_count;
+use crate::outline::outline_of;
 use cu_form::{Expr, Form};
-use cu_node::{NodeInfo, info_at, info_law};
-use cu_tree::cumulative_chunks;
+use cu_node::NodeInfo;
+use cu_tree::{outline_cells, outline_tasks};
 
 /// The most tasks of a plan.
 const MOST_TASKS: u64 = 65_536;
@@ -43,72 +39,22 @@ pub struct OverLimit {
     pub count: u64,
 }
 
-/// The tasks that make the node with this number, besides copies.
-fn own_tasks(split_every: u32, infos: &[NodeInfo], number: u32, form: &Form) -> u64
-    requires several { 2 ≤ split_every }
-    requires infos { All IsInfo infos.now }
-    requires partials { ArePartialsWithin infos.now number form.now }
-    ensures tasks { result ≡ own_tasks split_every infos.now number form.now }
-    ensures few { result ≤ 2 ^ 37 }
-{
-    info_law();
-    match form {
-        Form::Elementwise { .. } => chunk_count(&info_at(infos, number)),
-        Form::Reduce { args, axes, .. } => {
-            let source = array_of(infos, args.as_slice(), 0);
-            let axes = axes_reduced(&source, axes);
-            reduction_chunks(split_every, &info_at(infos, number), &source, axes)
-        }
-        Form::ArgPlace { args, axis, .. } => {
-            let source = array_of(infos, args.as_slice(), 0);
-            let axes = axes_sought(&source, *axis);
-            place_chunks(split_every, &info_at(infos, number), &source, axes)
-        }
-        Form::Matmul { args } => {
-            let left = array_of(infos, args.as_slice(), 0);
-            matmul_chunks(split_every, &info_at(infos, number), &left)
-        }
-        Form::CumulativeSum { args, axis } => {
-            let source = array_of(infos, args.as_slice(), 0);
-            let axis = sum_axis(&source, *axis);
-            cumulative_chunks(split_every, &info_at(infos, number), &source, axis)
-        }
-        Form::GroupBy { args, axis, .. } => {
-            let source = array_of(infos, args.as_slice(), 0);
-            let labels = array_of(infos, args.as_slice(), 1);
-            let labels = labels_wanted(&source, *axis, &labels);
-            group_chunks(split_every, &info_at(infos, number), &labels)
-        }
-        other if is_view(other) => chunk_count(&info_at(infos, number)),
-        _ => 0,
-    }
-}
-
 /// What the node with this number adds to the counts besides copies.
 fn own_counts(split_every: u32, infos: &[NodeInfo], number: u32, form: &Form) -> PlanCounts
     requires several { 2 ≤ split_every }
+    requires args { takes_args form.now ≡ true }
     requires infos { All IsInfo infos.now }
     requires partials { ArePartialsWithin infos.now number form.now }
+    requires operands { All IsRechunk (operands_of infos.now number form.now) }
     ensures tasks { result.tasks ≡ own_tasks split_every infos.now number form.now }
     ensures cells { result.cells ≡ own_cells split_every infos.now number form.now }
-    ensures few_tasks { result.tasks ≤ 2 ^ 37 }
-    ensures few_cells { result.cells ≤ 2 ^ 38 }
+    ensures few_tasks { result.tasks ≤ 2 ^ 38 }
+    ensures few_cells { result.cells ≤ 2 ^ 39 }
 {
-    info_law();
-    let tasks = own_tasks(split_every, infos, number, form);
-    match form {
-        Form::ArgPlace { args, axis, .. } => {
-            let source = array_of(infos, args.as_slice(), 0);
-            let values = value_chunks(split_every, &source, axes_sought(&source, *axis));
-            PlanCounts {
-                tasks,
-                cells: tasks + values,
-            }
-        }
-        _ => PlanCounts {
-            tasks,
-            cells: tasks,
-        },
+    let outline = outline_of(split_every, infos, number, form);
+    PlanCounts {
+        tasks: outline_tasks(outline.as_slice()),
+        cells: outline_cells(outline.as_slice()),
     }
 }
 

@@ -4,7 +4,7 @@ ghost use Rattle.std.specs.Prelude.{◌≡◌, ◌≤◌, ◌+◌, ◌^◌, ◌+
 ghost use Rattle.cu_node.specs.Info.{IsInfo};
 ghost use Rattle.cu_typing.specs.Joined.{aligned_within};
 ghost use Rattle.cu_need.specs.Chunks.{arrays_in};
-ghost use Rattle.cu_need.specs.Elementwise.{own_instructions, function_need};
+ghost use Rattle.cu_need.specs.Elementwise.{own_instructions, function_bytes};
 ghost use Rattle.cu_need.specs.Operands.{in_aligned};
 
 use crate::chunks::aligned_bytes;
@@ -56,19 +56,18 @@ fn own_instructions(op: ElementOp) -> u64
     }
 }
 
-/// The bytes of the operation that computes the function.
-pub(crate) fn function_need(
-    reserved: u64,
+/// The bytes of the operation that computes the function, besides those that are reserved.
+pub(crate) fn function_bytes(
     made: &NodeInfo,
     infos: &[NodeInfo],
     op: ElementOp,
     args: &[Arg],
 ) -> u64
-    requires reserved { reserved ≤ 2 ^ 40 }
     requires few { length args.now ≤ 3 }
     requires made { IsInfo made.now }
     requires within { aligned_within made.now.dims made.now.chunk (arrays_in infos.now args.now) ≡ true }
-    ensures need { result ≡ function_need reserved made.now (length args.now + own_instructions op) (arrays_in infos.now args.now) }
+    ensures bytes { result ≡ function_bytes made.now (length args.now + own_instructions op) (arrays_in infos.now args.now) }
+    ensures small { result ≤ 2 ^ 40 }
 {
     let own = chunk_bytes(made);
     let mut scratch = own;
@@ -81,5 +80,5 @@ pub(crate) fn function_need(
         }
     }
     let instructions = args.len() as u64 + own_instructions(op);
-    reserved + scratch + regions + own + INSTRUCTION_BYTES * instructions
+    scratch + regions + own + INSTRUCTION_BYTES * instructions
 }

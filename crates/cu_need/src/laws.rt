@@ -13,9 +13,11 @@ ghost use Rattle.cu_need.specs.Chunks.{arrays_in};
 ghost use Rattle.cu_copy.specs.Copies.{in_chunks, is_misaligned, rechunk_need};
 ghost use Rattle.cu_need.specs.Counts.{over_limit};
 ghost use Rattle.cu_need.specs.Elementwise.{are_aligned, own_instructions};
-ghost use Rattle.cu_need.specs.Need.{need_of, first_over, IsTyped, AreWithinLimits, IsLiveNode, IsFirstOver};
+ghost use Rattle.cu_need.specs.Need.{own_need, need_of, first_over, IsTyped, AreWithinLimits, IsLiveNode, IsFirstOver};
 ghost use Rattle.cu_need.specs.Reduction.{array_of};
 ghost use Rattle.cu_need.specs.Operands.{copies_of, in_aligned};
+ghost use Rattle.cu_need.specs.Outline.{outline_of};
+ghost use Rattle.cu_tree.specs.Outlines.{outline_bytes};
 ghost use Rattle.cu_need.specs.declared.counts.PlanCounts.{PlanCounts};
 ghost use Rattle.cu_need.specs.declared.need.NodeNeed.{NodeNeed};
 ghost use Rattle.cu_need.specs.Live.{is_live, IsClosed, IsLiveArgument};
@@ -46,6 +48,12 @@ pub fn aligned_law()
     ensures need { (reserved split_every out k : ℕ) (infos : List NodeInfo) (op : ElementOp) (args : List Arg) → are_aligned (info_at infos k) (arrays_in infos args) ≡ true
         → need_of reserved split_every infos out k (Form.Elementwise op args)
         ≡ reserved + largest (map chunk_bytes (info_at infos k ∷ arrays_in infos args)) + sum_by chunk_bytes (arrays_in infos args) + chunk_bytes (info_at infos k) + 512 * (length args + own_instructions op) }
+{}
+
+/// Of each node, whatever its form, the table of needs has the greatest need of its outline; the reserved bytes where it has no operation
+/// besides copies.
+pub fn outline_law()
+    ensures { (reserved split_every k : ℕ) (infos : List NodeInfo) (form : Form) → own_need reserved split_every infos k form ≡ reserved + outline_bytes (outline_of split_every infos k form) }
 {}
 
 /// A rechunk needs the reserved bytes and twice the greater of its chunks, and so does an input that is itself stored, whose chunks are its

@@ -11,13 +11,14 @@ mod laws;
 mod live;
 mod need;
 mod operands;
+mod outline;
 mod reduction;
 mod view;
 
 pub use along::{group_axis, labels_wanted, sum_axis};
 pub use counts::{OverLimit, PlanCounts, plan_counts};
 pub use cu_copy::{Rechunk, max_mem};
-pub use laws::{aligned_law, copies_law, counts_law, live_law, over_law, typed_law};
+pub use laws::{aligned_law, copies_law, counts_law, live_law, outline_law, over_law, typed_law};
 pub use live::live_marks;
 pub use need::{NodeNeed, first_over, need_of, own_need};
 pub use operands::{copies_of, operands_of};

@@ -7,19 +7,13 @@ ghost use Rattle.cu_copy.specs.Copies.{IsRechunk};
 ghost use Rattle.cu_need.specs.Need.{own_need, need_of, first_over, ArePartialsWithin, IsNodeWithin, AreWithinLimits};
 ghost use Rattle.cu_need.specs.Operands.{operands_of};
 
-use crate::along::{group_need, labels_wanted, sum_axis};
 use crate::copies::copies_need;
-use crate::elementwise::function_need;
 use crate::live::live_marks;
 use crate::operands::copies_of;
-use crate::reduction::{
-    array_of, axes_reduced, axes_sought, left_wanted, matmul_need, place_need, reduction_need,
-    right_wanted,
-};
-use crate::view::{is_view, view_need};
+use crate::outline::outline_of;
 use cu_form::{Expr, Form};
-use cu_node::{NodeInfo, info_at, info_law};
-use cu_tree::cumulative_need;
+use cu_node::NodeInfo;
+use cu_tree::outline_bytes;
 
 /// A node, and the bytes that it needs.
 #[derive(Clone, Copy, Debug, PartialEq, Eq)]
@@ -48,47 +42,8 @@ pub fn own_need(
     requires operands { All IsRechunk (operands_of infos.now number form.now) }
     ensures { result ≡ own_need reserved split_every infos.now number form.now }
 {
-    info_law();
-    let made = info_at(infos, number);
-    match form {
-        Form::Elementwise { op, args } => {
-            function_need(reserved, &made, infos, *op, args.as_slice())
-        }
-        Form::Reduce { args, axes, .. } => {
-            let source = array_of(infos, args.as_slice(), 0);
-            let axes = axes_reduced(&source, axes);
-            reduction_need(reserved, split_every, &made, &source, axes)
-        }
-        Form::ArgPlace { args, axis, .. } => {
-            let source = array_of(infos, args.as_slice(), 0);
-            let axes = axes_sought(&source, *axis);
-            place_need(reserved, split_every, &made, &source, axes)
-        }
-        Form::Matmul { args } => {
-            let left = array_of(infos, args.as_slice(), 0);
-            let right = array_of(infos, args.as_slice(), 1);
-            matmul_need(
-                reserved,
-                split_every,
-                &made,
-                &left_wanted(&made, &left, &right),
-                &right_wanted(&made, &left, &right),
-            )
-        }
-        Form::CumulativeSum { args, axis } => {
-            let source = array_of(infos, args.as_slice(), 0);
-            let axis = sum_axis(&source, *axis);
-            cumulative_need(reserved, split_every, &made, &source, axis)
-        }
-        Form::GroupBy { args, axis, .. } => {
-            let source = array_of(infos, args.as_slice(), 0);
-            let labels = array_of(infos, args.as_slice(), 1);
-            let labels = labels_wanted(&source, *axis, &labels);
-            group_need(reserved, split_every, &made, &source, &labels)
-        }
-        other if is_view(other) => view_need(reserved, infos, &made, other.args()),
-        _ => reserved,
-    }
+    let outline = outline_of(split_every, infos, number, form);
+    reserved + outline_bytes(outline.as_slice())
 }
 
 /// The bytes that the node with this number needs where node `out` is stored, of which `reserved` are kept for everything else: the

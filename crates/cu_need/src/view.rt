@@ -3,7 +3,7 @@
 ghost use Rattle.std.specs.Prelude.{◌≡◌, ◌≤◌, ◌^◌, All};
 ghost use Rattle.cu_node.specs.Info.{IsInfo};
 ghost use Rattle.cu_need.specs.Chunks.{arrays_in};
-ghost use Rattle.cu_need.specs.View.{is_view, view_need};
+ghost use Rattle.cu_need.specs.View.{is_view, view_bytes};
 
 use cu_copy::chunk_bytes;
 use cu_form::{Arg, Form};
@@ -26,12 +26,12 @@ pub fn is_view(form: &Form) -> bool
     }
 }
 
-/// The bytes that a view needs, whose array `made` tells of: its greatest chunk, and one of the result.
-pub(crate) fn view_need(reserved: u64, infos: &[NodeInfo], made: &NodeInfo, args: &[Arg]) -> u64
-    requires reserved { reserved ≤ 2 ^ 40 }
+/// The bytes of a view, whose array `made` tells of, besides those that are reserved: its greatest chunk, and one of the result.
+pub(crate) fn view_bytes(infos: &[NodeInfo], made: &NodeInfo, args: &[Arg]) -> u64
     requires made { IsInfo made.now }
     requires infos { All IsInfo infos.now }
-    ensures { result ≡ view_need reserved made.now (arrays_in infos.now args.now) }
+    ensures bytes { result ≡ view_bytes made.now (arrays_in infos.now args.now) }
+    ensures small { result ≤ 2 ^ 40 }
 {
     info_law();
     let own = chunk_bytes(made);
@@ -41,5 +41,5 @@ pub(crate) fn view_need(reserved: u64, infos: &[NodeInfo], made: &NodeInfo, args
             scratch = scratch.max(chunk_bytes(&info_at(infos, *number)));
         }
     }
-    reserved + scratch + own
+    scratch + own
 }

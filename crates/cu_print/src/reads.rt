@@ -1,27 +1,27 @@
 //! Bands that are read from the depot, chunk by chunk.
-ghost use Rattle.std.specs.Prelude.{◌≡◌, ◌≢◌, ℕ, ◌+◌, ◌*◌, ◌<◌, ◌≤◌, List, All, length, max, IfErr, OnOk, OnErr};
+ghost use Rattle.std.specs.Prelude.{◌≡◌, ◌≢◌, ℕ, ◌+◌, ◌*◌, ◌<◌, ◌≤◌, List, length, max, IfErr, OnOk, OnErr};
 ghost use Rattle.cu_num.specs.Dtype.{size_of};
 ghost use Rattle.cu_shape.specs.Index.{product, axis_by_axis, quotients, differences};
 ghost use Rattle.cu_grid.specs.Counts.{chunk_lo, IsRegion, IsWithin};
 ghost use Rattle.cu_grid.specs.Cover.{Meets};
 ghost use Rattle.cu_codec.specs.Parts.{part_at, place_within};
-ghost use Rattle.cu_region.specs.Reading.{bytes_of, HasChunk, HasChunkPart, key_at};
+ghost use Rattle.cu_region.specs.Reading.{bytes_of, HasChunkPart, key_at};
 ghost use Rattle.cu_region.specs.Calls.{chunks_met};
 ghost use Rattle.cu_region.specs.Steady.{IsSteady};
 ghost use Rattle.cu_store.specs.Steps.{Shown, NoChange};
+ghost use Rattle.cu_command.specs.Chunks.{IsStoredArray};
 ghost use Rattle.cu_command.specs.Seen.{Stepped, WithinCalls};
 ghost use Rattle.cu_print.specs.Bands.{HasFirst, IsBandUnread};
-ghost use Rattle.cu_print.specs.Runs.{IsPrintable, IsRunReadFault, IsReadEnd, read_end};
+ghost use Rattle.cu_print.specs.Runs.{IsReadEnd};
 
 use crate::runs::extents;
-use cu_codec::{chunk_bytes, chunk_key, take_part};
-use cu_command::Status;
+use cu_codec::{chunk_bytes, take_part};
+use cu_command::{Status, read_stored_chunk};
 use cu_grid::{Grid, Region};
 use cu_num::{Endian, size};
 use cu_op::ArrayInfo;
-use cu_region::read_chunk;
 use cu_shape::{Dims, difference, place};
-use cu_store::{Depot, InDepot, Key, TaskFault};
+use cu_store::Depot;
 
 /// Why a band wasn't read whole.
 #[derive(Clone, Copy)]
@@ -30,66 +30,6 @@ pub(crate) struct Unread {
     pub(crate) ready: u64,
     /// Why that chunk wasn't read.
     pub(crate) status: Status,
-}
-
-/// Reads a chunk once.
-fn read_once<D: Depot>(
-    depot: &mut D,
-    info: &ArrayInfo,
-    coord: &Dims,
-    buf: &mut [u8],
-) -> Result<(), TaskFault>
-    requires shown { IsPrintable info.now }
-    requires coordinate { All (λ i. i < 1048576) coord.now }
-    requires length { length buf.old ≡ bytes_of info.now.layout }
-    ensures read { (entry : Shown) → Stepped NoChange entry (D.shown depot.old)
-        → IsSteady (λ key. key ≡ key_at info.now coord.now) entry.held entry.late → OnOk result (HasChunk info.now coord.now entry.held buf.new) }
-    ensures step { Stepped NoChange (D.shown depot.old) (D.shown depot.new) }
-    ensures cause { IfErr result (IsRunReadFault 1 (D.shown depot.old) (D.shown depot.new) info.now.layout (key_at info.now coord.now)) }
-    ensures calls { WithinCalls 1 (D.shown depot.old) (D.shown depot.new) }
-{
-    read_chunk::<InDepot<D>>(&(), depot, info, coord, buf)
-}
-
-/// Reads a chunk, again where the store failed.
-fn read_tries<D: Depot>(
-    depot: &mut D,
-    info: &ArrayInfo,
-    coord: &Dims,
-    retries: u32,
-    buf: &mut [u8],
-) -> Result<(), TaskFault>
-    requires shown { IsPrintable info.now }
-    requires coordinate { All (λ i. i < 1048576) coord.now }
-    requires length { length buf.old ≡ bytes_of info.now.layout }
-    ensures read { (entry : Shown) → Stepped NoChange entry (D.shown depot.old)
-        → IsSteady (λ key. key ≡ key_at info.now coord.now) entry.held entry.late → OnOk result (HasChunk info.now coord.now entry.held buf.new) }
-    ensures step { Stepped NoChange (D.shown depot.old) (D.shown depot.new) }
-    ensures cause { IfErr result (IsRunReadFault (retries + 1) (D.shown depot.old) (D.shown depot.new) info.now.layout (key_at info.now coord.now)) }
-    ensures calls { WithinCalls (retries + 1) (D.shown depot.old) (D.shown depot.new) }
-{
-    for _ in 0..retries {
-        match read_once(depot, info, coord, buf) {
-            Err(TaskFault::Store) => {}
-            ended => return ended,
-        }
-    }
-    read_once(depot, info, coord, buf)
-}
-
-/// What is answered where reading this chunk ends so.
-fn read_end(fault: &TaskFault, key: &Key) -> Status
-    ensures { result ≡ read_end key.now fault.now }
-{
-    match fault {
-        TaskFault::Store => Status::DepotFailed { key: *key },
-        TaskFault::BadChunk { key, got, want } => Status::BadChunk {
-            key: *key,
-            got: *got,
-            want: *want,
-        },
-        TaskFault::NoMemory => Status::NoMemory,
-    }
 }
 
 /// Reads a chunk, again where the store failed, and copies what of it lies in the region into the region's buffer. Else it says
@@ -103,7 +43,7 @@ fn read_part<D: Depot>(
     out: &mut [u8],
     scratch: &mut [u8],
 ) -> Result<(), Status>
-    requires shown { IsPrintable info.now }
+    requires shown { IsStoredArray info.now }
     requires region { IsRegion info.now.layout.grid.shape region.now.lo region.now.hi }
     requires meets { Meets info.now.layout.grid region.now.lo region.now.hi coord.now }
     requires out_length { length out.old ≡ product (differences region.now.hi region.now.lo) * size_of info.now.layout.dtype }
@@ -120,11 +60,10 @@ fn read_part<D: Depot>(
 {
     let layout = &info.layout;
     let _shape = layout.grid.shape();
-    let key = chunk_key(&info.prefix, layout.encoding, coord);
     let chunk = &mut scratch[..chunk_bytes(&layout.grid, layout.dtype)];
-    match read_tries(depot, info, coord, retries, chunk) {
+    match read_stored_chunk(depot, info, coord, retries, chunk) {
         Ok(()) => {}
-        Err(fault) => return Err(read_end(&fault, &key)),
+        Err(status) => return Err(status),
     }
     take_part(
         &layout.grid,
@@ -173,7 +112,7 @@ pub(crate) fn read_band<D: Depot>(
     out: &mut [u8],
     scratch: &mut [u8],
 ) -> Result<(), Unread>
-    requires shown { IsPrintable info.now }
+    requires shown { IsStoredArray info.now }
     requires region { IsRegion info.now.layout.grid.shape region.now.lo region.now.hi }
     requires out_length { length out.old ≡ product (differences region.now.hi region.now.lo) * size_of info.now.layout.dtype }
     requires scratch_length { bytes_of info.now.layout ≤ length scratch.old }

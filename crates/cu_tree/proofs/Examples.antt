@@ -4,7 +4,8 @@ use Rattle.cu_num.specs.declared.types.Dtype.TheVariants.{Int32, Int64}
 use Rattle.cu_node.specs.Info.{info_of}
 use Rattle.cu_tree.specs.Marks.{sought_axes}
 use Rattle.cu_tree.specs.Needs.{fold_need, pair_fold_need, pair_merge_need, product_need}
-use Rattle.cu_tree.specs.Partials.{first_partial, reduction_rounds, product_partial, product_rounds, chunks_written}
+use Rattle.cu_tree.specs.Partials.{first_partial}
+use Rattle.cu_tree.specs.Outlines.{cumulative_outline, outline_cells, outline_tasks, product_outline, reduction_outline, search_outline}
 use Rattle.cu_tree.specs.Rounds.{rounds_of}
 
 -- 5 elements in chunks of 2 have 3 partial results; in pairs they are merged in two rounds
@@ -25,22 +26,29 @@ two_partials : first_partial Int64 (record { 0 = 1 }) (info_of Int32 (6 ∷ []) 
 two_partials = refl
 
 -- of no elements there is one, which one task makes
-none : chunks_written (first_partial Int64 (record { 0 = 1 }) (info_of Int32 (0 ∷ []) (4 ∷ []))) (reduction_rounds (record { 0 = 1 }) 4 (info_of Int32 (0 ∷ []) (4 ∷ []))) (info_of Int64 [] []) ≡ 1
+none : outline_tasks (reduction_outline 4 (info_of Int64 [] []) (info_of Int32 (0 ∷ []) (4 ∷ [])) (record { 0 = 1 })) ≡ 1
 none = refl
 
 none_need : fold_need 0 16 8 ≡ 40
 none_need = refl
 
--- three tasks, then two, then one
-place_tasks : chunks_written (first_partial Int64 (sought_axes None) (info_of Int32 (5 ∷ []) (2 ∷ []))) (reduction_rounds (sought_axes None) 2 (info_of Int32 (5 ∷ []) (2 ∷ []))) (info_of Int64 [] []) ≡ 6
+-- three tasks, then two, then one; all but the last store values too
+place_tasks : outline_tasks (search_outline 2 (info_of Int64 [] []) (info_of Int32 (5 ∷ []) (2 ∷ [])) (sought_axes None)) ≡ 6
 place_tasks = refl
+
+place_cells : outline_cells (search_outline 2 (info_of Int64 [] []) (info_of Int32 (5 ∷ []) (2 ∷ [])) (sought_axes None)) ≡ 11
+place_cells = refl
 
 place_needs : (pair_fold_need 0 8 4 8 ≡ 28) × (pair_merge_need 0 2 4 8 ≡ 44)
 place_needs = (refl, refl)
 
 -- two chunks of the inner axis, and one merge
-product_tasks : chunks_written (product_partial (info_of Int32 (2 ∷ 3 ∷ []) (2 ∷ 2 ∷ [])) (info_of Int32 (2 ∷ []) (2 ∷ []))) (product_rounds 4 (info_of Int32 (2 ∷ 3 ∷ []) (2 ∷ 2 ∷ [])) (info_of Int32 (2 ∷ []) (2 ∷ []))) (info_of Int32 (2 ∷ []) (2 ∷ [])) ≡ 3
+product_tasks : outline_tasks (product_outline 4 (info_of Int32 (2 ∷ []) (2 ∷ [])) (info_of Int32 (2 ∷ 3 ∷ []) (2 ∷ 2 ∷ [])) 16 8) ≡ 3
 product_tasks = refl
 
-product_bytes : product_need 0 16 8 8 ≡ 48
-product_bytes = refl
+-- three chunks in pairs: a fold, a merge, two carries and a scan
+sums_tasks : outline_tasks (cumulative_outline 2 (info_of Int32 (6 ∷ []) (2 ∷ [])) (info_of Int32 (6 ∷ []) (2 ∷ [])) 0) ≡ 13
+sums_tasks = refl
+
+product_chunks : product_need 0 16 8 8 ≡ 48
+product_chunks = refl

@@ -11,14 +11,12 @@ use Rattle.cu_num.specs.declared.types.Dtype.{Dtype}
 use Rattle.cu_shape.specs.Counts.{counts_of, at_least_one}
 use Rattle.cu_shape.specs.Index.{product}
 use Rattle.cu_shape.proofs.Axes.{length-axis_by_axis, get_or-axis_by_axis}
-use Rattle.cu_shape.proofs.Rounded.{counts_below}
 use Rattle.cu_grid.proofs.Covers.{product_most}
 use Rattle.cu_origin.specs.Pull.{has_axis}
 use Rattle.cu_origin.specs.declared.axes.Axes.{Axes}
 use Rattle.cu_node.specs.Info.{IsInfo}
 use Rattle.cu_node.specs.declared.info.NodeInfo.{NodeInfo}
-use Rattle.cu_tree.specs.Partials.{partial_chunk_from, first_partial, inner_count, product_partial, merged, arrays_written, partials_before, IsMiddle}
-use Rattle.cu_tree.specs.Rounds.{AreRounds}
+use Rattle.cu_tree.specs.Partials.{partial_chunk_from, first_partial, inner_count, product_partial, merged, IsMiddle}
 use Rattle.cu_tree.specs.declared.round.Round.{Round}
 use Rattle.cu_tree.proofs.Sizes.{size_positive, div_ceil_least, over_one, at_least_one-append, product-append, counts_of-append, length-dims, length-chunk, chunk_positive, dims_within, chunks_same, count_few}
 
@@ -131,24 +129,3 @@ of_merged r i inside le h =
       chunks = omega arith;
       bytes = h.bytes;
     }
-
--- all of them
-pub all_before : (axes : Axes) (g : ℕ) (partial : NodeInfo) (rounds : List Round) → 2 ≤ g → AreRounds axes g partial.dims rounds → IsMiddle partial → All IsMiddle (partials_before partial rounds)
-all_before axes g partial [] h rule m k d l = absurd (omega arith)
-all_before axes g partial (r ∷ rs) h rule m zero d l = m
-all_before axes g partial (r ∷ rs) h rule m (suc k) d l = all_before axes g (merged r partial) rs h rule.1 (after axes g partial r rs h rule m) k d (omega arith)
-  where
-    after : (axes : Axes) (g : ℕ) (partial : NodeInfo) (r : Round) (rs : List Round) → 2 ≤ g → AreRounds axes g partial.dims (r ∷ rs) → IsMiddle partial → IsMiddle (merged r partial)
-    after axes g partial r rs h rule m =
-        let t = rule.0.to in
-        let f = rule.0.from in
-        let b = counts_below r.from g (omega arith) in
-        of_merged r partial rule.0.inside (omega (arith, t, f, b)) m
-
-pub all_written : (axes : Axes) (g : ℕ) (partial made : NodeInfo) (rounds : List Round) → 2 ≤ g → AreRounds axes g partial.dims rounds → IsMiddle partial → IsMiddle made → All IsMiddle (arrays_written partial rounds made)
-all_written axes g partial made [] h rule m own zero d l = own
-all_written axes g partial made [] h rule m own (suc k) d l = absurd (omega arith)
-all_written axes g partial made (r ∷ rs) h rule m own zero d l = m
-all_written axes g partial made (r ∷ rs) h rule m own (suc k) d l =
-    all_written axes g (merged r partial) made rs h rule.1
-    (let t = rule.0.to in let f = rule.0.from in let b = counts_below r.from g (omega arith) in of_merged r partial rule.0.inside (omega (arith, t, f, b)) m) own k d (omega arith)

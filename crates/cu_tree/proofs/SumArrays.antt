@@ -1,25 +1,24 @@
 -- Arrays of sums keep the limits of an array inside a plan, and have few chunks.
-use Rattle.std.proofs.Common.{◌≡◌, ℕ, zero, suc, ◌+◌, ◌*◌, ◌<◌, ◌≤◌, ◌^◌, Bool, true, false, if◌then◌else◌, List, [], ◌∷◌, length, get_or, drop, sum_by, All, max, Some, refl, ap, sym, arith}
+use Rattle.std.proofs.Common.{◌≡◌, ℕ, suc, ◌+◌, ◌*◌, ◌<◌, ◌≤◌, ◌^◌, Bool, true, false, if◌then◌else◌, List, [], ◌∷◌, length, get_or, drop, All, max, Some, refl, ap, sym, arith}
 use Rattle.std.specs.Int.{div_ceil}
 use Rattle.std.proofs.lemmas.Nat.{mul-le}
 use Rattle.std.proofs.lemmas.List.{drop_more}
-use Rattle.std.proofs.lemmas.List.Sums.{sum_by-cons}
 use Rattle.std.proofs.lemmas.Nat.Bits.{bit_at-pow_same}
 use Rattle.cu_num.specs.Dtype.{size_of}
-use Rattle.cu_shape.specs.Counts.{counts_of, at_least_one}
+use Rattle.cu_shape.specs.Counts.{counts_of}
 use Rattle.cu_shape.specs.Index.{product}
 use Rattle.cu_shape.proofs.Axes.{length-axis_by_axis}
-use Rattle.cu_shape.proofs.Products.{product_within, size_within}
+use Rattle.cu_shape.proofs.Products.{size_within}
 use Rattle.cu_shape.proofs.Rounded.{counts_below}
 use Rattle.cu_origin.specs.Pull.{has_axis}
 use Rattle.cu_origin.specs.declared.axes.Axes.{Axes}
 use Rattle.cu_node.specs.declared.info.NodeInfo.{NodeInfo}
 use Rattle.cu_tree.specs.Marks.{sought_axes}
-use Rattle.cu_tree.specs.Partials.{partial_chunk_from, merged, chunks_of, IsMiddle}
-use Rattle.cu_tree.specs.Sums.{sums_array, sums_count, sums_from, IsSummed, AreSumRounds}
+use Rattle.cu_tree.specs.Partials.{partial_chunk_from, merged, IsMiddle}
+use Rattle.cu_tree.specs.Sums.{sums_array, sums_count, IsSummed, AreSumRounds}
 use Rattle.cu_tree.specs.declared.round.Round.{Round}
-use Rattle.cu_tree.proofs.Middles.{of_first, of_merged, merged_chunks}
-use Rattle.cu_tree.proofs.Sizes.{chunks_same, size_at, length-dims}
+use Rattle.cu_tree.proofs.Middles.{of_first, of_merged}
+use Rattle.cu_tree.proofs.Sizes.{size_at, length-dims}
 
 -- ---- the first
 
@@ -64,10 +63,6 @@ few_sums made source axis h =
     let f = h.source_info.chunks in
     omega arith
 
-pub chunks_few : (made source : NodeInfo) (axis : ℕ) → IsSummed made source axis
-    → product (at_least_one (counts_of (sums_array made source axis).dims (sums_array made source axis).chunk)) ≤ 65536
-chunks_few made source axis h = rw (chunks_same (sought_axes (Some axis)) 0 source.dims source.chunk h.source_info.ranks) h.source_info.chunks
-
 -- ---- after a round
 
 pub lessened : (g axis : ℕ) (sums : NodeInfo) (r : Round) (rs : List Round) → 2 ≤ g → AreSumRounds g axis sums.dims (r ∷ rs) → r.to ≤ get_or sums.dims r.axis 0
@@ -85,29 +80,8 @@ sums_within g axis sums r rs rule = let w = rule.0 in let a = w.axis in let i = 
 pub next_sums : (g axis : ℕ) (sums : NodeInfo) (r : Round) (rs : List Round) → 2 ≤ g → AreSumRounds g axis sums.dims (r ∷ rs) → IsMiddle sums → IsMiddle (merged r sums)
 next_sums g axis sums r rs h rule m = of_merged r sums (sums_within g axis sums r rs rule) (lessened g axis sums r rs h rule) m
 
-pub all_sums : (g axis : ℕ) (sums : NodeInfo) (rs : List Round) → 2 ≤ g → AreSumRounds g axis sums.dims rs → IsMiddle sums → All IsMiddle (sums_from sums rs)
-all_sums g axis sums [] h rule m zero d l = m
-all_sums g axis sums [] h rule m (suc k) d l = absurd (omega arith)
-all_sums g axis sums (r ∷ rs) h rule m zero d l = m
-all_sums g axis sums (r ∷ rs) h rule m (suc k) d l = all_sums g axis (merged r sums) rs h rule.1 (next_sums g axis sums r rs h rule m) k d (omega arith)
-
 -- ---- the loop over them
 
 pub behind : (g axis : ℕ) (sums : NodeInfo) (rounds : List Round) (k : ℕ) (d : Round) → k < length rounds → AreSumRounds g axis sums.dims (drop k rounds)
     → AreSumRounds g axis sums.dims (get_or rounds k d ∷ drop (k + 1) rounds)
 behind g axis sums rounds k d h rule = rw (drop_more rounds k d h) at rule
-
-pub counted_sums : (sums : NodeInfo) (rounds : List Round) (k : ℕ) (d : Round) → k < length rounds
-    → sum_by chunks_of (sums_from sums (drop k rounds)) ≡ chunks_of sums + sum_by chunks_of (sums_from (merged (get_or rounds k d) sums) (drop (k + 1) rounds))
-counted_sums sums rounds k d h =
-    rw (drop_more rounds k d h) (sum_by-cons chunks_of sums (sums_from (merged (get_or rounds k d) sums) (drop (k + 1) rounds)))
-
--- as many chunks as there are where an axis without elements counts as one
-pub few_chunks : (i : NodeInfo) → product (at_least_one (counts_of i.dims i.chunk)) ≤ 65536 → chunks_of i ≤ 65536
-few_chunks i h = let w = product_within (counts_of i.dims i.chunk) in omega arith
-
-pub chunks_after : (g axis : ℕ) (sums : NodeInfo) (r : Round) (rs : List Round) → 2 ≤ g → AreSumRounds g axis sums.dims (r ∷ rs) → IsMiddle sums
-    → product (at_least_one (counts_of sums.dims sums.chunk)) ≤ 65536 → product (at_least_one (counts_of (merged r sums).dims (merged r sums).chunk)) ≤ 65536
-chunks_after g axis sums r rs h rule m few =
-    let v = merged_chunks r sums (sums_within g axis sums r rs rule) (lessened g axis sums r rs h rule) m in
-    omega arith

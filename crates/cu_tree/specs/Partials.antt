@@ -1,6 +1,6 @@
 -- The arrays of partial results of a reduction (this project's own rule): the first has one for each chunk of the source, and each round of
 -- merges makes a further one.
-use Rattle.std.specs.Prelude.{ℕ, ◌+◌, ◌-◌, ◌*◌, ◌^◌, ◌≤◌, List, [], ◌∷◌, ◌++◌, length, max, slice_index, slice_set, sum_by, if◌then◌else◌}
+use Rattle.std.specs.Prelude.{ℕ, ◌+◌, ◌-◌, ◌*◌, ◌^◌, ◌≤◌, List, [], ◌∷◌, ◌++◌, length, max, slice_index, slice_set, if◌then◌else◌}
 use Rattle.std.specs.Int.{div_ceil}
 use Rattle.cu_num.specs.Dtype.{size_of}
 use Rattle.cu_num.specs.declared.types.Dtype.{Dtype}
@@ -47,7 +47,7 @@ product_partial left made = info_of made.dtype (made.dims ++ max 1 (inner_count 
 abbrev pub product_rounds : ℕ → NodeInfo → NodeInfo → List Round
 product_rounds split_every left made = axis_rounds split_every (length made.dims) (inner_count left) (inner_count left)
 
--- ---- after a round, and all
+-- ---- after a round
 
 -- the array after a round
 abbrev pub merged : Round → NodeInfo → NodeInfo
@@ -58,26 +58,9 @@ abbrev pub written_before : List Round → NodeInfo → NodeInfo → NodeInfo
 written_before [] partial made = made
 written_before (r ∷ rs) partial made = partial
 
--- the arrays that the operations write, one after another, from this partial one on: one more than there are rounds
-abbrev pub arrays_written : NodeInfo → List Round → NodeInfo → List NodeInfo
-arrays_written partial [] made = made ∷ []
-arrays_written partial (r ∷ rs) made = partial ∷ arrays_written (merged r partial) rs made
-
--- those but for the last; of a reduction to places each has an array of values beside it
-abbrev pub partials_before : NodeInfo → List Round → List NodeInfo
-partials_before partial [] = []
-partials_before partial (r ∷ rs) = partial ∷ partials_before (merged r partial) rs
-
 -- how many chunks an array has; one with an axis of size 0 has none
 abbrev pub chunks_of : NodeInfo → ℕ
 chunks_of i = product (counts_of i.dims i.chunk)
-
--- how many chunks they have together: of all, and of all but the last
-abbrev pub chunks_written : NodeInfo → List Round → NodeInfo → ℕ
-chunks_written partial rounds made = sum_by chunks_of (arrays_written partial rounds made)
-
-abbrev pub chunks_before : NodeInfo → List Round → ℕ
-chunks_before partial rounds = sum_by chunks_of (partials_before partial rounds)
 
 -- ---- what they keep
 

@@ -1,13 +1,13 @@
--- The arrays between an array and its prefix sums along an axis, their rounds, memory and chunks (this project's own rule). The first has
+-- The arrays between an array and its prefix sums along an axis, their rounds and memory (this project's own rule). The first has
 -- the sums of the chunks on the axis, each further one the sums of groups of `split_every` of the one before it, until one group is left.
 -- For each there is an array of what comes before each of its sums. `made` and `source` tell of the node's array and of its argument's.
-use Rattle.std.specs.Prelude.{◌≡◌, ℕ, zero, suc, ◌+◌, ◌*◌, ◌<◌, ◌≤◌, nat_lt, if◌then◌else◌, max, List, [], ◌∷◌, length, slice_index, slice_set, sum_by, Some}
+use Rattle.std.specs.Prelude.{◌≡◌, ℕ, zero, suc, ◌+◌, ◌<◌, ◌≤◌, nat_lt, if◌then◌else◌, max, List, [], ◌∷◌, length, slice_index, slice_set, Some}
 use Rattle.std.specs.Int.{div_ceil}
 use Rattle.cu_node.specs.Info.{IsInfo, chunk_bytes}
 use Rattle.cu_node.specs.declared.info.NodeInfo.{NodeInfo}
 use Rattle.cu_tree.specs.Marks.{sought_axes}
-use Rattle.cu_tree.specs.Needs.{fold_need, merge_need, product_need}
-use Rattle.cu_tree.specs.Partials.{first_partial, merged, chunks_of}
+use Rattle.cu_tree.specs.Needs.{fold_need, merge_bytes, product_need}
+use Rattle.cu_tree.specs.Partials.{first_partial, merged}
 use Rattle.cu_tree.specs.Rounds.{merge_round}
 use Rattle.cu_tree.specs.declared.round.Round.{Round}
 
@@ -39,11 +39,14 @@ sums_from sums (r ∷ rs) = sums ∷ sums_from (merged r sums) rs
 abbrev pub sums_arrays : ℕ → ℕ → ℕ → NodeInfo → List NodeInfo
 sums_arrays split_every axis most sums = sums_from sums (sum_rounds split_every axis most (slice_index sums.dims axis))
 
--- ---- memory and chunks
+-- ---- memory
 
 -- a carry of a group of sums, and of what is above them
+abbrev pub carry_bytes : ℕ → ℕ → ℕ
+carry_bytes split_every sums = merge_bytes (split_every + 1) sums
+
 abbrev pub carry_need : ℕ → ℕ → ℕ → ℕ
-carry_need reserved split_every sums = merge_need reserved (split_every + 1) sums
+carry_need reserved split_every sums = reserved + carry_bytes split_every sums
 
 -- A scan alone where there is at most one chunk on the axis. Otherwise a fold, carries, and a scan with what is carried in. A merge needs
 -- less than a carry.
@@ -54,14 +57,6 @@ cumulative_need reserved split_every made source axis =
     (max (carry_need reserved split_every (chunk_bytes (sums_array made source axis)))
     (product_need reserved (chunk_bytes source) (chunk_bytes (sums_array made source axis)) (chunk_bytes made)))
     else fold_need reserved (chunk_bytes source) (chunk_bytes made)
-
--- a task for each chunk of the arrays of sums, one for each of what is carried into it, and one for each chunk of the node's array
-abbrev pub cumulative_chunks : ℕ → NodeInfo → NodeInfo → ℕ → ℕ
-cumulative_chunks split_every made source axis =
-    (if nat_lt 1 (sums_count made source axis) then
-    2 * sum_by chunks_of (sums_from (sums_array made source axis) (cumulative_rounds split_every made source axis))
-    else 0)
-    + chunks_of made
 
 -- ---- what they keep
 

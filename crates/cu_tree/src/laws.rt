@@ -1,13 +1,11 @@
-//! Laws of rounds and of the arrays of partial results: calls that do nothing and whose clauses are the laws.
+//! Laws of rounds: calls that do nothing and whose clauses are the laws.
 
-ghost use Rattle.std.specs.Prelude.{◌≡◌, ◌≤◌, ◌^◌, ℕ, List, All, length};
+ghost use Rattle.std.specs.Prelude.{◌≡◌, ◌≤◌, ◌^◌, ℕ, length};
 ghost use Rattle.cu_num.specs.declared.types.Dtype.{Dtype};
 ghost use Rattle.cu_origin.specs.declared.axes.Axes.{Axes};
-ghost use Rattle.cu_node.specs.Info.{IsInfo};
 ghost use Rattle.cu_node.specs.declared.info.NodeInfo.{NodeInfo};
-ghost use Rattle.cu_tree.specs.Partials.{first_partial, reduction_rounds, product_partial, product_rounds, arrays_written, partials_before, AreMerges, IsMiddle};
+ghost use Rattle.cu_tree.specs.Partials.{first_partial, reduction_rounds, product_partial, product_rounds};
 ghost use Rattle.cu_tree.specs.Rounds.{AreRounds};
-ghost use Rattle.cu_tree.specs.declared.round.Round.{Round};
 
 /// The rounds of a reduction and of a product keep the rule of a round on the arrays of partial results: each takes the lowest reduced axis
 /// that has more than one, and at the end none has.
@@ -16,14 +14,4 @@ pub fn merges_law()
         → AreRounds axes split_every (first_partial t axes source).dims (reduction_rounds axes split_every source) }
     ensures product { (split_every : ℕ) (left made : NodeInfo) → 2 ≤ split_every
         → AreRounds (record { 0 = 2 ^ length made.dims }) split_every (product_partial left made).dims (product_rounds split_every left made) }
-{}
-
-/// Where the first array of partial results keeps the limits of an array inside a plan, each further one does; and so does the array of a
-/// node.
-pub fn partials_law()
-    ensures before { (partial : NodeInfo) (rounds : List Round) → AreMerges partial rounds → IsMiddle partial
-        → All IsMiddle (partials_before partial rounds) }
-    ensures written { (partial made : NodeInfo) (rounds : List Round) → AreMerges partial rounds → IsMiddle partial → IsMiddle made
-        → All IsMiddle (arrays_written partial rounds made) }
-    ensures info { (i : NodeInfo) → IsInfo i → IsMiddle i }
 {}

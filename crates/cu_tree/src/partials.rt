@@ -7,13 +7,13 @@ ghost use Rattle.cu_shape.specs.Index.{product};
 ghost use Rattle.cu_reduce.specs.Groups.{groups_of, group_counts};
 ghost use Rattle.cu_origin.specs.Pull.{has_axis};
 ghost use Rattle.cu_node.specs.Info.{IsInfo};
-ghost use Rattle.cu_tree.specs.Partials.{first_partial, partial_size, partial_chunk_from, inner_count, product_partial, merged, chunks_of, chunks_written, chunks_before, AreMerges, IsMiddle};
+ghost use Rattle.cu_tree.specs.Partials.{first_partial, partial_size, partial_chunk_from, inner_count, product_partial, merged, chunks_of, IsMiddle};
 
 use crate::round::Round;
 use crate::tree::has_axis;
 use cu_grid::Grid;
 use cu_node::{NodeInfo, grown};
-use cu_num::Dtype;
+use cu_num::{Dtype, size};
 use cu_origin::Axes;
 use cu_shape::Dims;
 
@@ -134,36 +134,6 @@ pub fn merged(round: &Round, partial: &NodeInfo) -> NodeInfo
     after
 }
 
-/// How many chunks the arrays have together that are written from this partial one on: one after each round, of which the last is the
-/// node's own.
-pub fn chunks_written(partial: &NodeInfo, rounds: &[Round], made: &NodeInfo) -> u64
-    requires few { length rounds.now ≤ 24 }
-    requires rounds { AreMerges partial.now rounds.now }
-    requires partial { IsMiddle partial.now }
-    requires made { IsMiddle made.now }
-    ensures count { result ≡ chunks_written partial.now rounds.now made.now }
-    ensures small { result ≤ 2 ^ 37 }
-{
-    chunks_before(partial, rounds) + chunks_of(made)
-}
-
-/// The same without the last.
-pub fn chunks_before(partial: &NodeInfo, rounds: &[Round]) -> u64
-    requires few { length rounds.now ≤ 24 }
-    requires rounds { AreMerges partial.now rounds.now }
-    requires partial { IsMiddle partial.now }
-    ensures count { result ≡ chunks_before partial.now rounds.now }
-    ensures small { result ≤ 24 * 2 ^ 32 }
-{
-    let mut chunks = 0;
-    let mut before = *partial;
-    for round in rounds {
-        chunks += chunks_of(&before);
-        before = merged(round, &before);
-    }
-    chunks
-}
-
 /// How many chunks an array has.
 pub(crate) fn chunks_of(info: &NodeInfo) -> u64
     requires { IsMiddle info.now }
@@ -171,4 +141,16 @@ pub(crate) fn chunks_of(info: &NodeInfo) -> u64
     ensures few { result ≤ 2 ^ 32 }
 {
     Grid::make_middle(info.dims, info.chunk).count()
+}
+
+/// The bytes of a chunk of this shape and type.
+pub fn bytes_of(chunk: &Dims, dtype: Dtype) -> u64
+    requires { product chunk.now * size_of dtype ≤ 2 ^ 28 }
+    ensures bytes { result ≡ product chunk.now * size_of dtype }
+    ensures few { result ≤ 2 ^ 28 }
+{
+    match chunk.elements() {
+        Some(elements) => elements * size(dtype),
+        None => unreachable!(),
+    }
 }

@@ -1,14 +1,17 @@
 -- What each task is lent, of the most that any is.
-use Rattle.std.proofs.Common.{◌≡◌, ℕ, zero, suc, ◌+◌, ◌*◌, ◌<◌, ◌≤◌, List, [], ◌∷◌, ◌++◌, length, get_or, map, replicate, max, refl, ap, sym, ◌∙◌, subst, arith}
+use Rattle.std.proofs.Common.{◌≡◌, ℕ, zero, suc, ◌+◌, ◌*◌, ◌<◌, ◌≤◌, List, [], ◌∷◌, ◌++◌, Bool, false, not, length, get_or, map, replicate, max, min, refl, ap, sym, ◌∙◌, subst, arith}
 use Rattle.std.specs.List.{range_with_len}
-use Rattle.std.specs.Prelude.{sum_by}
+use Rattle.std.specs.Prelude.{count_by, sum_by}
 use Rattle.std.proofs.lemmas.List.{length-replicate}
 use Rattle.std.proofs.lemmas.List.Elements.{All-replicate}
 use Rattle.std.proofs.lemmas.List.Folds.{sum_by-replicate}
-use Rattle.std.proofs.lemmas.List.Sums.{sum_by-le}
+use Rattle.std.proofs.lemmas.List.Sums.{count_by-le-length, sum_by-le}
+use Rattle.std.proofs.lemmas.Nat.{mul-le}
 use Rattle.std.proofs.lemmas.List.FromFn.{get_or-range_with_len, length-range_with_len, map-range_with_len_more}
 use Rattle.cu_op.specs.PlanView.{PlanView}
 use Rattle.cu_work.specs.Rooms.{RoomSizes, task_bytes, task_words, most_of, rooms_of, buffer_bytes, AreLentWithin}
+use Rattle.cu_work.specs.Shared.{most_copies, worker_count}
+use Rattle.cu_work.specs.declared.options.RunOptions.{RunOptions}
 use Rattle.cu_shape.specs.Counts.{largest}
 
 one_of : (f : ℕ → ℕ) (ns : List ℕ) (i d : ℕ) → i < length ns → f (get_or ns i d) ≤ largest (map f ns)
@@ -63,8 +66,31 @@ rooms_within p room instructions lent =
 pub all_buffers : (n : ℕ) (r : RoomSizes) (rooms : List RoomSizes) → rooms ≡ replicate n r → sum_by buffer_bytes rooms ≡ n * buffer_bytes r
 all_buffers n r rooms is = ap (sum_by buffer_bytes) is ∙ sum_by-replicate buffer_bytes n r
 
-pub all_within : (n most : ℕ) (r : RoomSizes) (rooms : List RoomSizes) → rooms ≡ replicate n r → buffer_bytes r ≤ most → sum_by buffer_bytes rooms ≤ n * most
-all_within n most r rooms is small =
-    subst (λ (rs : List RoomSizes). sum_by buffer_bytes rs ≤ n * most) (sym is)
+more_rooms : (n wanted most total : ℕ) → n ≤ wanted → total ≤ n * most → total ≤ wanted * most
+more_rooms n wanted most total few small = let wide = mul-le n most wanted most few (omega arith) in omega (arith, small, wide)
+
+pub all_within : (n wanted most : ℕ) (r : RoomSizes) (rooms : List RoomSizes) → rooms ≡ replicate n r → n ≤ wanted → buffer_bytes r ≤ most
+    → sum_by buffer_bytes rooms ≤ wanted * most
+all_within n wanted most r rooms is few small =
+    more_rooms n wanted most (sum_by buffer_bytes rooms) few
+    (subst (λ (rs : List RoomSizes). sum_by buffer_bytes rs ≤ n * most) (sym is)
     (subst (λ (k : ℕ). sum_by buffer_bytes (replicate n r) ≤ k * most) (length-replicate n r)
-    (sum_by-le buffer_bytes most (replicate n r) (All-replicate (λ (x : RoomSizes). buffer_bytes x ≤ most) n r small)))
+    (sum_by-le buffer_bytes most (replicate n r) (All-replicate (λ (x : RoomSizes). buffer_bytes x ≤ most) n r small))))
+
+-- ---- how many workers there are
+
+pub rooms_many : (n len : ℕ) (r : RoomSizes) (rooms : List RoomSizes) → len ≡ length rooms → rooms ≡ replicate n r → len ≡ n
+rooms_many n len r rooms is made = is ∙ ap length made ∙ length-replicate n r
+
+pub some_workers : (wanted copies len : ℕ) → 0 < wanted → len ≡ min wanted (max 1 copies) → 0 < len
+some_workers wanted copies len some is = omega (arith, some, is)
+
+pub few_workers : (wanted copies len : ℕ) → len ≡ min wanted (max 1 copies) → len ≤ wanted
+few_workers wanted copies len is = omega (arith, is)
+
+-- no more than tasks, without second copies
+pub one_each : (o : RunOptions) (done : List Bool) (len : ℕ) → o.backups ≡ false → len ≡ worker_count o done → len ≤ max 1 (length done)
+one_each o done len off is =
+    let few = count_by-le-length not done in
+    let once : most_copies o.backups done ≡ count_by not done * 1 = ap (λ (b : Bool). most_copies b done) off in
+    omega (arith, few, is, once)

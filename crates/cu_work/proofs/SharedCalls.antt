@@ -1,5 +1,5 @@
 -- The calls of a run of tasks, by their starts and in all.
-use Rattle.std.proofs.Common.{◌≡◌, ℕ, ◌+◌, ◌*◌, ◌≤◌, Bool, List, refl, ap, sym, ◌∙◌, subst, arith}
+use Rattle.std.proofs.Common.{◌≡◌, ℕ, ◌+◌, ◌*◌, ◌≤◌, Bool, List, ap, ◌∙◌, subst, arith}
 use Rattle.cu_store.specs.Yard.{Served, Known}
 use Rattle.cu_history.specs.History.{is_start, count_kind}
 use Rattle.cu_op.specs.PlanView.{PlanView}

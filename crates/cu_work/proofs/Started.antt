@@ -1,12 +1,13 @@
 -- How often any workers start each task, and what all starts call for.
-use Rattle.std.proofs.Common.{◌≡◌, inl, inr, ℕ, ◌+◌, ◌*◌, ◌<◌, ◌≤◌, Bool, true, false, cond, List, [], ◌∷◌, ◌++◌, length, All, Option, Some, None, get_or, refl, ap, sym, ◌∙◌, subst, arith}
+use Rattle.std.proofs.Common.{◌≡◌, inl, inr, ℕ, ◌+◌, ◌*◌, ◌<◌, ◌≤◌, Bool, true, false, List, [], ◌∷◌, ◌++◌, length, All, Option, Some, None, get_or, refl, ap, sym, ◌∙◌, subst, arith, ne_eqb}
 use Rattle.std.specs.Prelude.{◌==◌, ◌&&◌, not, if◌then◌else◌}
 use Rattle.std.proofs.Math.Nat.{mul-add, mul_comm}
 use Rattle.std.proofs.lemmas.Bool.{cases_Bool}
+use Rattle.std.proofs.lemmas.Bool.Decides.{eqb_tells}
 use Rattle.cu_history.specs.declared.entry.Entry.{Entry}
 use Rattle.cu_history.specs.declared.entry.EventKind.{EventKind}
 use Rattle.cu_history.specs.declared.entry.EventKind.TheVariants.{Start, Done, Failed, Halt, Late}
-use Rattle.cu_history.specs.History.{is_start, is_failed, count_kind, count_of_task}
+use Rattle.cu_history.specs.History.{is_start, count_kind, count_of_task}
 use Rattle.cu_op.specs.Cells.{tasks_of}
 use Rattle.cu_op.specs.PlanView.{PlanView}
 use Rattle.cu_op.specs.Schedule.{op_of}
@@ -16,12 +17,11 @@ use Rattle.cu_table.specs.declared.state.Ending.{Ending}
 use Rattle.cu_table.specs.declared.state.Ending.TheVariants.{Halted}
 use Rattle.cu_table.specs.Numbers.{IsTask, task_number}
 use Rattle.cu_table.specs.Machine.{Machine, no_task, state_at, opening, with_task, one_copy_more, one_copy_less, done_now, failed_now}
-use Rattle.cu_table.specs.Own.{is_end}
 use Rattle.cu_table.specs.Step.{Settings, StepOf, Run, Replays}
 use Rattle.cu_table.proofs.Copies.{a_copy, weight, weight_own, weight_other}
 use Rattle.cu_table.proofs.Keeping.{Kept, counted, state_same, state_other, state_small, same_task, step_kept, opening_kept}
 use Rattle.cu_table.proofs.Tallies.{starts_of_task, failures_of_task}
-use Rattle.cu_work.specs.Calls.{sum_of_first, calls_of_tasks}
+use Rattle.cu_work.specs.Calls.{calls_of_tasks}
 use Rattle.cu_work.specs.Drive.{IsTaskMost}
 use Rattle.cu_work.specs.Starts.{started_calls, most_starts, IsOfWorkers}
 use Rattle.cu_work.proofs.Sums.{sum_same}
@@ -311,3 +311,18 @@ of_one n some g history one = record {
   numbers = λ k d low. let first = one.numbers k d low in omega (arith, first, some);
   starts = λ op task that. more_starts g.retries (count_of_task is_start op task history) (if not (n == 1) && g.backups then 1 else 0) (one.starts op task that);
 }
+
+-- fewer of them
+pub of_fewer : (few n : ℕ) → 0 < few → few ≤ n → (g : Settings) (history : List Entry) → IsOfWorkers few g history → IsOfWorkers n g history
+of_fewer few n some most g history fewer =
+    elim (eqb_tells few 1) [
+      | inl one ↦ of_one n (omega (arith, some, most)) g history (subst (λ (k : ℕ). IsOfWorkers k g history) one.1 fewer)
+      | inr more ↦
+          let isnt : n ≡ 1 → ⊥ = λ e. more.1 (omega (arith, e, some, most)) in
+          record {
+            numbers = λ k d low. let first = fewer.numbers k d low in omega (arith, first, most);
+            starts = λ op task that.
+                subst (λ (b : Bool). count_of_task is_start op task history ≤ g.retries + 1 + (if not b && g.backups then 1 else 0))
+                (more.0 ∙ sym (ne_eqb n 1 isnt)) (fewer.starts op task that);
+          }
+    ]

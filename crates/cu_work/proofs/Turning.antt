@@ -1,5 +1,5 @@
 -- What a worker knows after a claim and after a report.
-use Rattle.std.proofs.Common.{◌≡◌, ◌≢◌, ℕ, zero, suc, get_or, set, Bool, true, false, cond, List, [], ◌∷◌, ◌++◌, Option, Some, None, Result, Ok, Err, refl, sym, ap, ◌∙◌, subst, true≢false, arith, eq-eqb}
+use Rattle.std.proofs.Common.{◌≡◌, ◌≢◌, ℕ, zero, suc, get_or, set, Bool, true, false, cond, List, [], ◌∷◌, ◌++◌, Option, Some, None, Result, Ok, Err, refl, sym, ap, ◌∙◌, subst, true≢false, eq-eqb}
 use Rattle.std.specs.Prelude.{Contains, OnOk, IfErr}
 use Rattle.cu_store.specs.Held.{Contents}
 use Rattle.cu_store.specs.Yard.{Known, Served, FitsYard, IsTold, IsLater, shown_by}

@@ -8,7 +8,7 @@ use Rattle.cu_store.specs.Held.{Contents}
 use Rattle.cu_op.specs.Arrays.{layout_at, grid_at, is_inlined, maker_at}
 use Rattle.cu_op.specs.PlanView.{PlanView}
 use Rattle.cu_op.specs.Schedule.{op_of, key_of, cell_value, task_at, WritesCell, IsReady as IsReadyOf}
-use Rattle.cu_op.specs.Sound.{Sound, IsCell}
+use Rattle.cu_op.specs.Sound.{IsCell}
 use Rattle.cu_op.specs.Elements.{Elements}
 use Rattle.cu_op.specs.Value.{rule, plan_value, stored_inputs}
 use Rattle.cu_op.specs.Walks.{written_chunks}

@@ -1,5 +1,5 @@
 -- What a run of a plan shares of a depot, what it wants of it, and what its tasks have come to. This project's own rules.
-use Rattle.std.specs.Prelude.{◌≡◌, ℕ, ◌+◌, ◌≤◌, zero, suc, Bool, false, List, [], ◌∷◌, ◌++◌, length, map, replicate, Option, Some, None, is_some, if◌then◌else◌}
+use Rattle.std.specs.Prelude.{◌≡◌, ℕ, ◌+◌, ◌*◌, ◌≤◌, zero, suc, min, max, Bool, false, not, List, [], ◌∷◌, ◌++◌, length, map, count_by, replicate, Option, Some, None, is_some, if◌then◌else◌}
 use Rattle.cu_store.specs.Faults.{Rose}
 use Rattle.cu_store.specs.Held.{Contents, Write}
 use Rattle.cu_store.specs.Steps.{Shown}
@@ -106,9 +106,17 @@ opened_table p o done = record {
   state = opening done;
 }
 
+-- how many copies of tasks run at the same time at most: one of each task that isn't done, and two with second copies
+abbrev pub most_copies : Bool → List Bool → ℕ
+most_copies backups done = count_by not done * (if backups then 2 else 1)
+
+-- how many workers such a run has: as many as are wanted, but no more than copies of its tasks, and one if there are none
+abbrev pub worker_count : RunOptions → List Bool → ℕ
+worker_count o done = min o.workers (max 1 (most_copies o.backups done))
+
 -- the memory for such a run: that of each worker, the keys and the table
 pub record IsMemoryFor (p : PlanView) (o : RunOptions) (done : List Bool) (m : RunMemory) : Type 0 where
-  pub rooms : m.rooms.items ≡ replicate o.workers (rooms_of p)
+  pub rooms : m.rooms.items ≡ replicate (worker_count o done) (rooms_of p)
   pub specs : m.specs.items ≡ specs_of p
   pub table : m.table ≡ opened_table p o done
 

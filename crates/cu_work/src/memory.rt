@@ -1,11 +1,11 @@
 //! The memory that a run takes before it stores anything.
-ghost use Rattle.std.specs.Prelude.{◌≡◌, ℕ, ◌+◌, ◌*◌, ◌<◌, ◌≤◌, ◌++◌, IfOk, length, map, replicate, sum_by, false};
+ghost use Rattle.std.specs.Prelude.{◌≡◌, ℕ, ◌+◌, ◌*◌, ◌<◌, ◌≤◌, ◌++◌, IfOk, length, map, max, replicate, sum_by, vec_len, false};
 ghost use Rattle.cu_store.specs.Held.{Contents};
 ghost use Rattle.cu_op.specs.Arrays.{array_at, array_chunk_count, chunk_room};
 ghost use Rattle.cu_op.specs.Cells.{IsChunk};
 ghost use Rattle.cu_table.specs.Numbers.{task_count};
 ghost use Rattle.cu_work.specs.Rooms.{rooms_of, buffer_bytes, AreLentWithin};
-ghost use Rattle.cu_work.specs.Shared.{spec_of, specs_of, chunks_below, stored_chunks, none_done, IsMemoryFor};
+ghost use Rattle.cu_work.specs.Shared.{spec_of, specs_of, chunks_below, stored_chunks, none_done, worker_count, IsMemoryFor};
 ghost use Rattle.cu_work.specs.World.{IsFound};
 
 use crate::options::RunOptions;
@@ -140,10 +140,22 @@ fn make_rooms(alloc: Global, plan: &Plan, workers: u32) -> Result<Vec<Rooms>, No
     Ok(rooms)
 }
 
+/// How many workers a run has: as many as are wanted, but no more than copies of its tasks run at the same time, and one if there are
+/// none. The others would never be given a task.
+fn worker_count(options: &RunOptions, done: &[bool]) -> u32
+    ensures { result ≡ worker_count options.now done.now }
+{
+    let wanted = options.workers as usize;
+    let undone = done.iter().filter(|is_done| !**is_done).count().min(wanted);
+    let copies = if options.backups { 2 * undone } else { undone };
+    copies.max(1).min(wanted) as u32
+}
+
 impl RunMemory {
-    /// The memory for a run of the plan, of which these tasks are done, those of all operations in order. Each worker has the most
-    /// bytes and words that any task is lent: no more than an operation's memory and 512 bytes for each instruction of its kernels. The
-    /// Err is want of memory.
+    /// The memory for a run of the plan, of which these tasks are done, those of all operations in order. There are at most as many
+    /// workers as tasks that aren't done, with second copies twice as many, and one if all are done. Each has the most bytes and words
+    /// that any task is lent: no more than an operation's memory and 512 bytes for each instruction of its kernels. The Err is want of
+    /// memory.
     pub fn make(
         alloc: Global,
         plan: &Plan,
@@ -152,14 +164,15 @@ impl RunMemory {
     ) -> Result<RunMemory, NoMemory>
         requires { length done.now ≡ task_count plan.now }
         ensures memory { IfOk result (IsMemoryFor plan.now options.now done.now) }
+        ensures few { options.now.backups ≡ false → IfOk result (λ memory. vec_len memory.rooms ≤ max 1 (task_count plan.now)) }
         ensures buffers { IfOk result (λ memory. sum_by buffer_bytes memory.rooms.items
-            ≡ options.now.workers * buffer_bytes (rooms_of plan.now)) }
+            ≡ worker_count options.now done.now * buffer_bytes (rooms_of plan.now)) }
         ensures room { (room instructions : ℕ) → AreLentWithin plan.now room instructions → IfOk result (λ memory.
             sum_by buffer_bytes memory.rooms.items ≤ options.now.workers * (room + 512 * instructions)) }
     {
         // that the plan is sound is told by the plan alone
         let _ops = plan.ops();
-        let rooms = make_rooms(alloc, plan, options.workers)?;
+        let rooms = make_rooms(alloc, plan, worker_count(options, done))?;
         let table = Table::begin(alloc, plan, options.retries, options.backups, done)?;
         let specs = make_specs(alloc, plan)?;
         Ok(RunMemory {

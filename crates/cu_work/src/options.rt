@@ -3,7 +3,8 @@
 /// How a run of a plan goes.
 #[derive(Clone, Copy, Debug, PartialEq, Eq)]
 pub struct RunOptions {
-    /// How many workers run its tasks, at least one. One alone starts no thread and waits for nobody.
+    /// How many workers run its tasks, at least one, and fewer where fewer copies of tasks can run at the same time. One alone starts no
+    /// thread and waits for nobody.
     pub workers: u32,
     /// How often a text, the sharing of the keys and a task are tried again where the store failed.
     pub retries: u32,

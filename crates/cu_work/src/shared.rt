@@ -60,6 +60,8 @@ fn run_promised<K: Promised, H: Threads + Wait + Sync, D: Share, G: Gate>(
     ensures cause { IfErr result (IsShareFault (options.now.retries + 1) (D.shown depot.old) (D.shown depot.new)) }
 {
     let _sound = plan.ops();
+    // that there are fewer than 2^32 rooms is told by the type of this number
+    let _wanted = options.workers;
     let RunMemory {
         rooms,
         table,
@@ -68,17 +70,7 @@ fn run_promised<K: Promised, H: Threads + Wait + Sync, D: Share, G: Gate>(
     let promise = Promise::make::<K>();
     match share_tries(depot, alloc, &specs, &promise, options.retries) {
         Ok((yard, mut pass)) => {
-            let end = work(
-                rt,
-                alloc,
-                plan,
-                &yard,
-                &mut pass,
-                options.workers,
-                rooms,
-                table,
-                gate,
-            );
+            let end = work(rt, alloc, plan, &yard, &mut pass, rooms, table, gate);
             depot.unshare(yard, pass);
             Ok(end)
         }

@@ -93,8 +93,8 @@ fn work_at_board<H: Threads + Wait + Sync, Y: Yard, G: Gate>(
     Ok(RunEnd { outcome, table })
 }
 
-/// Runs the tasks of the plan in the yard, by so many workers, each with rooms of its own. One worker alone starts no thread and waits for
-/// nobody. Where there is no memory for the board of several, one runs all tasks.
+/// Runs the tasks of the plan in the yard, by a worker for each of these rooms. One worker alone starts no thread and waits for nobody.
+/// Where there is no memory for the board of several, one runs all tasks.
 ///
 /// The table is that of this plan and has no history yet, and the pass has seen each chunk of each task that the table calls done.
 /// At the end no copy runs, and the pass has seen each chunk of each task that is done. Its count of faults has risen by each
@@ -106,15 +106,14 @@ pub(crate) fn work<H: Threads + Wait + Sync, Y: Yard, G: Gate>(
     plan: &Plan,
     yard: &Y,
     pass: &mut Y::Pass,
-    workers: u32,
     rooms: Vec<Rooms>,
     table: Table,
     gate: &G,
 ) -> RunEnd
     requires own { Y.owns yard.now pass.old }
     requires serves { ServesPlan plan.now (Y.serves yard.now) }
-    requires some { 0 < workers }
-    requires count { vec_len rooms ≡ workers }
+    requires some { 0 < vec_len rooms }
+    requires few { vec_len rooms < 2 ^ 32 }
     requires rooms { All (λ r. r ≡ rooms_of plan.now) rooms.items }
     requires plan { table.settings.plan ≡ plan.now }
     requires fresh { table.history ≡ [] }
@@ -122,9 +121,9 @@ pub(crate) fn work<H: Threads + Wait + Sync, Y: Yard, G: Gate>(
     ensures own { Y.owns yard.now pass.new }
     ensures worked { HasWorked (Y.serves yard.now) table result.table (Y.knows pass.old) (Y.knows pass.new) }
     ensures decided { IsDecided plan.now result.table.state result.outcome }
-    ensures workers { IsOfWorkers workers table.settings result.table.history }
+    ensures workers { IsOfWorkers (vec_len rooms) table.settings result.table.history }
 {
-    if workers == 1 {
+    if rooms.len() == 1 {
         return work_alone(plan, yard, pass, rooms, table);
     }
     match work_at_board(rt, alloc, plan, yard, pass, rooms, table, gate) {

@@ -1,4 +1,5 @@
-use Rattle.cu_lower.proofs.InputNames.{same_when, other_when, from_place, place_found, place_passed}
+use Rattle.cu_expr.proofs.NamedLayouts.{same_when, other_when, from_place}
+use Rattle.cu_lower.proofs.InputNames.{place_found, place_passed}
 use Rattle.cu_lower.proofs.inputs.place_of.Goals as goal
 
 pub returns-then-is-clause-place : goal.returns-then-is-clause-place

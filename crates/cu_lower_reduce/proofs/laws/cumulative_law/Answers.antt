@@ -1,4 +1,4 @@
-use Rattle.cu_lower_reduce.proofs.SumComings.{cumulative_comes}
+use Rattle.cu_lower_reduce.proofs.Outlined.{cumulative_comes}
 use Rattle.cu_lower_reduce.proofs.SumValues.{cumulative_value}
 use Rattle.cu_lower_reduce.proofs.Summing.{cumulative_holds, cumulative_last}
 use Rattle.cu_lower_reduce.proofs.laws.cumulative_law.Goals as goal

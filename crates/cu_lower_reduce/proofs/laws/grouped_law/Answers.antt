@@ -2,7 +2,8 @@ use Rattle.std.proofs.Common.{ℕ, sym, ◌∙◌, ap, subst}
 use Rattle.cu_lower_reduce.specs.Steps.{HasInfo}
 use Rattle.cu_lower_reduce.specs.Grouped.{grouped_steps}
 use Rattle.cu_lower_reduce.proofs.Lasts.{last_is}
-use Rattle.cu_lower_reduce.proofs.GroupSteps.{grouped_holds, grouped_last, grouped_number, grouped_comes}
+use Rattle.cu_lower_reduce.proofs.Outlined.{grouped_comes}
+use Rattle.cu_lower_reduce.proofs.GroupSteps.{grouped_holds, grouped_last, grouped_number}
 use Rattle.cu_lower_reduce.proofs.GroupValues.{grouped_value}
 use Rattle.cu_lower_reduce.proofs.laws.grouped_law.Goals as goal
 

@@ -2,7 +2,8 @@ use Rattle.std.proofs.Common.{ℕ, sym, ◌∙◌, ap, subst}
 use Rattle.cu_lower_reduce.specs.Steps.{HasInfo}
 use Rattle.cu_lower_reduce.specs.Products.{product_steps}
 use Rattle.cu_lower_reduce.proofs.Lasts.{last_is}
-use Rattle.cu_lower_reduce.proofs.Multiplied.{product_holds, product_last, product_number, product_comes}
+use Rattle.cu_lower_reduce.proofs.Outlined.{product_comes}
+use Rattle.cu_lower_reduce.proofs.Multiplied.{product_holds, product_last, product_number}
 use Rattle.cu_lower_reduce.proofs.ProductValues.{product_value}
 use Rattle.cu_lower_reduce.proofs.laws.product_law.Goals as goal
 

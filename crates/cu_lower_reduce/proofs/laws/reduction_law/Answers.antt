@@ -1,7 +1,7 @@
 use Rattle.std.proofs.Common.{ℕ, sym, ◌∙◌, ap, subst}
 use Rattle.cu_lower_reduce.specs.Steps.{HasInfo}
 use Rattle.cu_lower_reduce.specs.Reductions.{reduction_steps}
-use Rattle.cu_lower_reduce.proofs.Comings.{reduction_comes}
+use Rattle.cu_lower_reduce.proofs.Outlined.{reduction_comes}
 use Rattle.cu_lower_reduce.proofs.Folds.{reduction_holds, reduction_last, reduction_number}
 use Rattle.cu_lower_reduce.proofs.KindValues.{reduction_value}
 use Rattle.cu_lower_reduce.proofs.Lasts.{last_is}

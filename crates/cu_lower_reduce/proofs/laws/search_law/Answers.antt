@@ -3,7 +3,7 @@ use Rattle.cu_lower_reduce.specs.Steps.{HasInfo}
 use Rattle.cu_lower_reduce.specs.Searches.{search_steps}
 use Rattle.cu_lower_reduce.proofs.Lasts.{last_is}
 use Rattle.cu_lower_reduce.proofs.Searching.{search_holds, search_last, search_number}
-use Rattle.cu_lower_reduce.proofs.SearchSizes.{search_comes}
+use Rattle.cu_lower_reduce.proofs.Outlined.{search_comes}
 use Rattle.cu_lower_reduce.proofs.SearchValues.{search_value}
 use Rattle.cu_lower_reduce.proofs.laws.search_law.Goals as goal
 

@@ -1,4 +1,4 @@
-use Rattle.std.proofs.Common.{◌≡◌, ◌+◌, ◌*◌, ◌≤◌, ◌∙◌, ℕ, inr, sym, ap, subst, arith}
+use Rattle.std.proofs.Common.{◌+◌, ◌*◌, ◌≤◌, ℕ, inr, sym, ap, subst, arith}
 use Rattle.cu_store.proofs.Steps.{steps_wider}
 use Rattle.cu_work.specs.Calls.{missing_texts}
 use Rattle.cu_work.specs.Starts.{most_calls}

@@ -1,6 +1,5 @@
-use Rattle.std.proofs.Common.{◌≡◌, ◌≤◌, ℕ, Bool, IsTrue, All, length, ◌+◌, ◌*◌, ap, sym, ◌∙◌, refl, subst, arith}
+use Rattle.std.proofs.Common.{◌≡◌, ◌≤◌, ℕ, Bool, IsTrue, All, ◌+◌, ap, sym, ◌∙◌, refl, subst, arith}
 use Rattle.std.specs.Prelude.{min}
-use Rattle.std.proofs.lemmas.List.{length-replicate}
 use Rattle.std.proofs.lemmas.List.Elements.{All-replicate}
 use Rattle.cu_store.specs.Faults.{last_count}
 use Rattle.cu_work.proofs.SharedCalls.{calls_by_starts, calls_of_all}
@@ -12,7 +11,9 @@ use Rattle.cu_table.specs.Machine.{Machine}
 use Rattle.cu_table.specs.Table.{TableView}
 use Rattle.cu_op.specs.PlanView.{PlanView}
 use Rattle.cu_work.specs.Alone.{HasSeenDone, IsDecided}
-use Rattle.cu_work.specs.Shared.{IfLacked}
+use Rattle.cu_work.specs.Shared.{IfLacked, most_copies, worker_count}
+use Rattle.cu_work.proofs.Lent.{few_workers, rooms_many, some_workers}
+use Rattle.cu_work.proofs.Started.{of_fewer}
 use Rattle.cu_work.proofs.PlanChunks.{chunks_apart, specs_differ}
 use Rattle.cu_work.proofs.SharedRuns.{lent_is, may_share, serves, seen_first, may_give_back, shared_step, shared_done, shared_bad, shared_input, shared_lacked}
 use Rattle.cu_store.proofs.Steps.{steps_none, steps_wider}
@@ -206,16 +207,23 @@ pub work-end-requires-clause-own : goal.work-end-requires-clause-own
 work-end-requires-clause-own g c κs within = c.in-Ok.ensures.own
 
 pub work-end-requires-clause-some : goal.work-end-requires-clause-some
-work-end-requires-clause-some g c κs within = c.requires.workers
+work-end-requires-clause-some g c κs within =
+    let o = c.args.options.now in
+    let d = c.args.memory.table.done in
+    some_workers o.workers (most_copies o.backups d) c.args.memory.rooms.len c.requires.workers
+    (rooms_many (worker_count o d) c.args.memory.rooms.len (rooms_of c.args.plan.now) c.args.memory.rooms.items c.args.memory.rooms.ok.0 c.requires.memory.rooms)
 
-pub work-end-requires-clause-count : goal.work-end-requires-clause-count
-work-end-requires-clause-count g c κs within =
-    let n = ap length c.requires.memory.rooms ∙ length-replicate c.args.options.now.workers (rooms_of c.args.plan.now) in
-    omega (arith, n, c.args.memory.rooms.ok.0)
+pub work-end-requires-clause-few : goal.work-end-requires-clause-few
+work-end-requires-clause-few g c κs within =
+    let o = c.args.options.now in
+    let d = c.args.memory.table.done in
+    let len = rooms_many (worker_count o d) c.args.memory.rooms.len (rooms_of c.args.plan.now) c.args.memory.rooms.items c.args.memory.rooms.ok.0 c.requires.memory.rooms in
+    let few = few_workers o.workers (most_copies o.backups d) c.args.memory.rooms.len len in
+    omega (arith, few)
 
 pub work-end-requires-clause-rooms : goal.work-end-requires-clause-rooms
 work-end-requires-clause-rooms g c κs within = subst (All (λ (r : RoomSizes). r ≡ rooms_of c.args.plan.now)) (sym c.requires.memory.rooms)
-    (All-replicate (λ (r : RoomSizes). r ≡ rooms_of c.args.plan.now) c.args.options.now.workers (rooms_of c.args.plan.now) refl)
+    (All-replicate (λ (r : RoomSizes). r ≡ rooms_of c.args.plan.now) (worker_count c.args.options.now c.args.memory.table.done) (rooms_of c.args.plan.now) refl)
 
 pub work-end-requires-clause-plan : goal.work-end-requires-clause-plan
 work-end-requires-clause-plan g c κs within = ap (λ (t : TableView). t.settings.plan) c.requires.memory.table
@@ -239,7 +247,13 @@ returns-in-Ok-clause-driven g c =
     }
 
 pub returns-in-Ok-clause-workers : goal.returns-in-Ok-clause-workers
-returns-in-Ok-clause-workers g c = c.work-end.ensures.workers
+returns-in-Ok-clause-workers g c =
+    let o = c.args.options.now in
+    let d = c.args.memory.table.done in
+    let len = rooms_many (worker_count o d) c.args.memory.rooms.len (rooms_of c.args.plan.now) c.args.memory.rooms.items c.args.memory.rooms.ok.0 c.requires.memory.rooms in
+    of_fewer c.args.memory.rooms.len o.workers (some_workers o.workers (most_copies o.backups d) c.args.memory.rooms.len c.requires.workers len)
+    (few_workers o.workers (most_copies o.backups d) c.args.memory.rooms.len len)
+    c.args.memory.table.settings c.work-end.result.table.history c.work-end.ensures.workers
 
 pub returns-in-Ok-clause-tries : goal.returns-in-Ok-clause-tries
 returns-in-Ok-clause-tries g c = λ m most.
@@ -252,7 +266,7 @@ pub returns-in-Ok-clause-calls : goal.returns-in-Ok-clause-calls
 returns-in-Ok-clause-calls g c =
     few_calls _ _ _ _ _ _ _ c.share_tries.ensures.step.calls.1 c.in-Ok.ensures.shared.calls
     (calls_of_all c.args.options.now c.args.plan.now c.args.memory.table.done c.args.memory.table c.work-end.result.table c.requires.memory.table (g.D.Yard.Yard.serves c.in-Ok.yard)
-    (g.D.Yard.Yard.knows c.in-Ok.pass) (g.D.Yard.Yard.knows c.work-end.new.pass) c.work-end.ensures.worked c.work-end.ensures.workers)
+    (g.D.Yard.Yard.knows c.in-Ok.pass) (g.D.Yard.Yard.knows c.work-end.new.pass) c.work-end.ensures.worked (returns-in-Ok-clause-workers g c))
     c.unshare.ensures.step.calls.1
 
 pub returns-in-Err-clause-workers : goal.returns-in-Err-clause-workers
