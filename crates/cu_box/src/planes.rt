@@ -435,7 +435,8 @@ fn copy_dense<const N: usize>(
     );
 }
 
-/// The same element by element. How far a step goes is known in the loops of the strides that come most often.
+/// The same element by element. How far a step goes is known in the loops of the strides that come most often, and in those of a
+/// turned plane which way.
 fn copy_lines<const N: usize>(order: Endian, plane: Plane, source: &[u8], target: &mut [u8])
     requires can { CanCopy N (plane_axes plane) plane.start source.now (length target.old) }
     requires some { 0 < plane.inner.count }
@@ -448,6 +449,10 @@ fn copy_lines<const N: usize>(order: Endian, plane: Plane, source: &[u8], target
         copy_going::<N>(order, plane, still, next, source, target);
     } else if goes(plane.inner, next, next) {
         copy_going::<N>(order, plane, next, next, source, target);
+    } else if let Stride::Up(far) = plane.inner.from
+        && plane.inner.to == next
+    {
+        copy_going::<N>(order, plane, Stride::Up(far), next, source, target);
     } else {
         copy_each_line::<N>(order, plane, source, target);
     }
