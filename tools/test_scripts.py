@@ -17,6 +17,7 @@ import math
 import os
 import random
 import re
+import shutil
 import sys
 import time
 import unittest
@@ -27,6 +28,7 @@ from test_calls import *  # noqa: F403
 from test_hostile import *  # noqa: F403
 from test_loops import *  # noqa: F403
 import folder as folder_commands
+import transcripts
 import word_cases
 from zarr_store import TYPES, Layout, item_bytes
 
@@ -257,6 +259,33 @@ class Months(InFolder):
         self.assertEqual(run(sys.executable, f"{TOP}/examples/calendar/months.py", "days", "2001", "y", "lunar").returncode, 1)
         for words in ([], ["2001", "lunar"], ["2001", "2002", "2003"]):
             self.assertEqual(run(sys.executable, f"{TOP}/examples/calendar/month_labels.py", *words).returncode, 1)
+
+
+class Archive(InFolder):
+    """What tools/archive copies beside the program."""
+
+    COPIED = re.compile(r'\(cd "\$top/(tools|compare)" && cp (.*?) "\$room')
+
+    def copied(self):
+        with open(f"{TOP}/tools/archive", encoding="utf-8") as script:
+            return {place: names.split() for place, names in self.COPIED.findall(script.read())}
+
+    def test_each_script_finds_what_it_imports(self):
+        copied = self.copied()
+        self.assertEqual(sorted(copied), ["compare", "tools"])
+        for place, names in copied.items():
+            os.makedirs(f"{self.room}/alone/{place}")
+            for name in names:
+                shutil.copy(f"{TOP}/{place}/{name}", f"{self.room}/alone/{place}/{name}")
+        modules = [name[:-3] for names in copied.values() for name in names if name.endswith(".py")]
+        self.assertGreater(len(modules), 8)
+        places = [f"{self.room}/alone/{place}" for place in copied]
+        ended = run(sys.executable, "-c", f"import sys; sys.path[:0] = {places!r}; import {', '.join(modules)}")
+        self.assertEqual((ended.returncode, ended.stderr.decode()), (0, ""))
+
+    def test_the_transcripts_have_the_same(self):
+        copied = self.copied()
+        self.assertEqual((list(transcripts.TOOLS), list(transcripts.RULES)), (copied["tools"], copied["compare"]))
 
 
 class Help(unittest.TestCase):

@@ -27,7 +27,7 @@ import tempfile
 TOP = os.path.dirname(os.path.dirname(os.path.realpath(__file__)))
 # As tools/archive has them.
 TOOLS = ("zarr", "zarr_store.py", "folder.py", "tasks.py", "locks.py", "words.py", "call.py", "explain.py")
-RULES = ("rules.py", "copies.py", "limits.py", "operators.py", "reductions.py")
+RULES = ("rules.py", "copies.py", "inlined.py", "limits.py", "operators.py", "reductions.py")
 # The nodes before the example of an operator, and the arrays that they want.
 LOADED = ("elementwise/t", "elementwise/o", "rechunk/m")
 BEFORE = [{"id": "t", "op": "input", "name": "t"}, {"id": "o", "op": "input", "name": "o"}, {"id": "m", "op": "input", "name": "m"},
