@@ -1,12 +1,12 @@
 //! Regions that are read.
-ghost use Rattle.std.specs.Prelude.{◌≡◌, ℕ, ◌*◌, ◌<◌, ◌≤◌, List, All, length, IfOk, IfErr, OnOk};
+ghost use Rattle.std.specs.Prelude.{◌≡◌, ℕ, ◌*◌, ◌%◌, ◌<◌, ◌≤◌, List, All, length, IfOk, IfErr, OnOk};
 ghost use Rattle.cu_num.specs.Dtype.{size_of, InRange};
 ghost use Rattle.cu_shape.specs.Index.{product, differences};
 ghost use Rattle.cu_grid.specs.Counts.{IsRegion};
 ghost use Rattle.cu_grid.specs.Cover.{Meets};
 ghost use Rattle.cu_store.specs.Chunks.{Adds, Keeps, StaysOpen};
 ghost use Rattle.cu_store.specs.Steps.{NoChange, Steps};
-ghost use Rattle.cu_region.specs.Reading.{key_at, IsChunkKey, bytes_of, Fetches, ReadsChunk, HasChunk, ReadsRegion, IsChunkReadFault};
+ghost use Rattle.cu_region.specs.Reading.{key_at, IsChunkKey, bytes_of, Fetches, ReadsFront, HasChunk, HasFront, ReadsRegion, IsChunkReadFault};
 ghost use Rattle.cu_region.specs.RegionPart.{IsRegionPart, key_of_part, bytes_of_chunk, bytes_of_region, ReadsRegionPart};
 ghost use Rattle.cu_region.specs.Calls.{chunks_met, region_tally, Made};
 ghost use Rattle.cu_region.specs.Steady.{IsSteady, HoldSame};
@@ -92,6 +92,36 @@ pub fn read_chunk<C: Chunks>(
         (λ key. key ≡ key_at info.now coord.now) (bytes_of info.now.layout)) }
 {
     let _grid = info.layout.grid.shape();
+    read_front::<C>(store, access, info, coord, buf)
+}
+
+/// Reads the front of the chunk at this coordinate of a stored array, in either byte order: its first elements, row-major and
+/// little-endian, as many as the buffer has room for. So a caller that needs no element behind them moves no more bytes than
+/// these. It answers as `read_chunk` does: of a chunk that is absent the front is of the fill value, and a value that hasn't
+/// the bytes of a chunk is bad, however short the front is. It makes one call of the store.
+pub fn read_front<C: Chunks>(
+    store: &C::Store,
+    access: &mut C::Access,
+    info: &ArrayInfo,
+    coord: &Dims,
+    buf: &mut [u8],
+) -> Result<(), TaskFault>
+    requires belongs { C.belongs store.now access.old }
+    requires may { C.may_get store.now access.old (key_at info.now coord.now) }
+    requires short { length info.now.prefix ≤ 45 }
+    requires fill { InRange info.now.layout.dtype info.now.layout.fill }
+    requires small { All (λ i. i < 1048576) coord.now }
+    requires within { length buf.old ≤ bytes_of info.now.layout }
+    requires whole { length buf.old % size_of info.now.layout.dtype ≡ 0 }
+    ensures read { OnOk result (HasFront info.now coord.now (C.shown access.new).held buf.new) }
+    ensures elements { OnOk result (AreElements info.now.layout.dtype buf.new) }
+    ensures open { StaysOpen (C.belongs store.now access.new) (C.may_get store.now access.old) (C.may_get store.now access.new) }
+    ensures step { Steps NoChange 1 1 (C.shown access.old) (C.shown access.new) }
+    ensures called { Adds (C.weight store.now (key_at info.now coord.now)) (C.tally access.old) (C.tally access.new) }
+    ensures cause { IfErr result (IsChunkReadFault (C.shown access.old) (C.shown access.new)
+        (λ key. key ≡ key_at info.now coord.now) (bytes_of info.now.layout)) }
+{
+    let _grid = info.layout.grid.shape();
     let key = chunk_key(&info.prefix, info.layout.encoding, coord);
     read_bytes::<C>(store, access, &key, &info.layout, buf)?;
     settle(info.layout.dtype, buf);
@@ -138,8 +168,8 @@ fn read_part<C: Chunks>(
     Ok(())
 }
 
-/// Reads the chunk under this key into `buf`, which has the bytes of a chunk, little-endian. An absent chunk reads as
-/// the fill value.
+/// Reads the front of the chunk under this key, as many bytes as `buf` has, little-endian. An absent chunk reads as the fill
+/// value.
 fn read_bytes<C: Chunks>(
     store: &C::Store,
     access: &mut C::Access,
@@ -147,10 +177,11 @@ fn read_bytes<C: Chunks>(
     layout: &Layout,
     buf: &mut [u8],
 ) -> Result<(), TaskFault>
-    requires length { length buf.old ≡ bytes_of layout.now }
+    requires within { length buf.old ≤ bytes_of layout.now }
+    requires whole { length buf.old % size_of layout.now.dtype ≡ 0 }
     requires belongs { C.belongs store.now access.old }
     requires may { C.may_get store.now access.old key.now }
-    ensures read { OnOk result (ReadsChunk layout.now (C.shown access.new).held key.now buf.new) }
+    ensures read { OnOk result (ReadsFront layout.now (C.shown access.new).held key.now buf.new) }
     ensures open { StaysOpen (C.belongs store.now access.new) (C.may_get store.now access.old) (C.may_get store.now access.new) }
     ensures step { Steps NoChange 1 1 (C.shown access.old) (C.shown access.new) }
     ensures called { Adds (C.weight store.now key.now) (C.tally access.old) (C.tally access.new) }
@@ -162,7 +193,7 @@ fn read_bytes<C: Chunks>(
     Ok(())
 }
 
-/// Reads the chunk under this key into `buf`, which has the bytes of a chunk, and says in which order the bytes of its elements
+/// Reads the front of the chunk under this key, as many bytes as `buf` has, and says in which order the bytes of its elements
 /// are: as it is stored, or the fill value in little-endian order where the chunk is absent.
 fn fetch<C: Chunks>(
     store: &C::Store,
@@ -171,7 +202,7 @@ fn fetch<C: Chunks>(
     layout: &Layout,
     buf: &mut [u8],
 ) -> Result<Endian, TaskFault>
-    requires length { length buf.old ≡ bytes_of layout.now }
+    requires within { length buf.old ≤ bytes_of layout.now }
     requires belongs { C.belongs store.now access.old }
     requires may { C.may_get store.now access.old key.now }
     ensures fetched { IfOk result (λ e. Fetches layout.now (C.shown access.new).held key.now e buf.new) }
@@ -187,7 +218,7 @@ fn fetch<C: Chunks>(
             Ok(Endian::Little)
         }
         Ok(Got::Held(got)) => {
-            let want = buf.len() as u64;
+            let want = chunk_bytes(&layout.grid, layout.dtype) as u64;
             if got == want {
                 Ok(layout.endian)
             } else {
