@@ -3,6 +3,7 @@ pub mod ChunkRegions
 pub mod CopyTask
 pub mod Counting
 mod Examples
+pub mod Fronts
 pub mod InputReads
 pub mod Inside
 pub mod JobViews

@@ -1,6 +1,7 @@
 //! Tasks of views: the chunks of their sources that they need, read one at a time.
-ghost use Rattle.std.specs.Prelude.{◌≡◌, ℕ, ◌<◌, ◌≤◌, true, Option, IsTrue, All, length, IfErr, OnOk};
-ghost use Rattle.cu_shape.specs.Index.{differences};
+ghost use Rattle.std.specs.Prelude.{◌≡◌, ℕ, ◌*◌, ◌<◌, ◌≤◌, true, Option, IsTrue, All, length, IfErr, OnOk};
+ghost use Rattle.cu_num.specs.Dtype.{size_of};
+ghost use Rattle.cu_shape.specs.Index.{product, differences};
 ghost use Rattle.cu_store.specs.Faults.{Rose};
 ghost use Rattle.cu_store.specs.Held.{Contents};
 ghost use Rattle.cu_store.specs.Chunks.{Adds, Keeps, StaysOpen};
@@ -10,15 +11,15 @@ ghost use Rattle.cu_op.specs.Kind.Pull.{shapes_at};
 ghost use Rattle.cu_region.specs.Reading.{key_at, IsChunkReadFault};
 ghost use Rattle.cu_region.specs.Writing.{AreElements};
 ghost use Rattle.cu_task.specs.Views.{source_in, is_exact, source_calls, sure_calls, view_calls, IsSourceKey, IsKnown, HaveCome, IsAny, HasPulled};
-ghost use Rattle.cu_task.specs.ViewJobs.{IsViewJob, view_task_of, made_in, buffer_room, source_room, view_of_part, IsSourceRegion, IsSourceChunk, IsChunkRegion, view_of_chunk, source_of_chunk, room_for_chunk, IsKeyOfSource, is_needed_chunk, calls_for_chunk, HaveComeFrom, IsMovedFrom, HasHull, IsViewFault};
+ghost use Rattle.cu_task.specs.ViewJobs.{IsViewJob, view_task_of, made_in, buffer_room, source_room, view_of_part, IsSourceRegion, IsSourceChunk, IsChunkRegion, view_of_chunk, source_of_chunk, room_for_chunk, IsKeyOfSource, is_needed_chunk, calls_for_chunk, HaveComeFrom, IsMovedFrom, HasHull, IsFront, IsViewFault};
 ghost use Rattle.cu_task.specs.ViewJobs.{tally_for_chunk, tally_for_source, tally_for_sources, IsExactJob};
 
 use arrayvec::ArrayVec;
-use cu_codec::chunk_bytes;
 use cu_grid::Region;
+use cu_num::size;
 use cu_op::{ArrayInfo, PlanTask};
 use cu_origin::Pull;
-use cu_region::read_chunk;
+use cu_region::read_front;
 use cu_shape::{Dims, difference};
 use cu_store::{Chunks, TaskFault};
 use cu_view::{gather, hull_of, lay_constants, touches_of};
@@ -57,6 +58,8 @@ pub(crate) struct SourceChunk<'a> {
     pub(crate) source: u32,
     /// The coordinate of the chunk.
     pub(crate) coord: Dims,
+    /// A region of the source with all that is needed of it.
+    pub(crate) needed: Region,
 }
 
 /// The shapes of arrays of a plan.
@@ -249,6 +252,7 @@ fn read_within<C: Chunks>(
             job: part.job,
             source: part.source,
             coord,
+            needed: part.region,
         };
         read_piece::<C>(store, access, &chunk, output, scratch)?;
     }
@@ -342,7 +346,37 @@ fn chunk_block(chunk: &SourceChunk<'_>) -> Block
     }
 }
 
-/// Reads one chunk of a source into the front of `scratch`, and takes the elements of the region that come from it.
+/// The elements of a chunk of a source up to the last row, along its first axis, of which something is needed. Row-major they
+/// are the chunk's first, so that a read from its beginning has them.
+fn front_block(chunk: &SourceChunk<'_>) -> Block
+    requires { IsSourceChunk chunk.now }
+    ensures { IsFront chunk.now result }
+{
+    let mut front = chunk_block(chunk);
+    if front.dims.rank() > 0 {
+        let first = front.region.lo.at(0);
+        let end = front.region.hi.at(0).min(chunk.needed.hi.at(0)).max(first);
+        front.region.hi.put(0, end);
+        front.dims.put(0, end - first);
+    }
+    front
+}
+
+/// The bytes of the front of a chunk.
+fn front_bytes(chunk: &SourceChunk<'_>, front: &Block) -> usize
+    requires chunk { IsSourceChunk chunk.now }
+    requires front { IsFront chunk.now front.now }
+    ensures bytes { result ≡ product front.now.dims * size_of front.now.dtype }
+    ensures within { result ≤ room_for_chunk chunk.now }
+{
+    match front.dims.elements() {
+        Some(count) => (count * u64::from(size(front.dtype))) as usize,
+        None => unreachable!(),
+    }
+}
+
+/// Reads the front of one chunk of a source, with all that is needed of it, into the front of `scratch`, and takes the elements
+/// of the region that come from it.
 fn take_chunk<C: Chunks>(
     store: &C::Store,
     access: &mut C::Access,
@@ -367,16 +401,18 @@ fn take_chunk<C: Chunks>(
         (IsKeyOfSource chunk.now) (room_for_chunk chunk.now)) }
 {
     let from = source_array(chunk.job, chunk.source);
-    let bytes = &mut scratch[..chunk_bytes(&from.layout.grid, from.layout.dtype)];
-    read_chunk::<C>(store, access, from, &chunk.coord, bytes)?;
-    move_chunk(chunk, bytes, output);
+    let front = front_block(chunk);
+    let bytes = &mut scratch[..front_bytes(chunk, &front)];
+    read_front::<C>(store, access, from, &chunk.coord, bytes)?;
+    move_front(chunk, &front, bytes, output);
     Ok(())
 }
 
-/// Takes the elements of the region that come from a chunk of a source, which was read.
-fn move_chunk(chunk: &SourceChunk<'_>, bytes: &[u8], output: &mut [u8])
+/// Takes the elements of the region that come from a chunk of a source, whose front was read.
+fn move_front(chunk: &SourceChunk<'_>, front: &Block, bytes: &[u8], output: &mut [u8])
     requires chunk { IsSourceChunk chunk.now }
-    requires bytes { length bytes.now ≡ room_for_chunk chunk.now }
+    requires front { IsFront chunk.now front.now }
+    requires bytes { length bytes.now ≡ product front.now.dims * size_of front.now.dtype }
     requires elements { AreElements (source_of_chunk chunk.now).layout.dtype bytes.now }
     requires output { length output.old ≡ buffer_room (view_of_chunk chunk.now) }
     ensures { IsMovedFrom (view_of_chunk chunk.now) chunk.now.source chunk.now.coord bytes.now
@@ -384,14 +420,13 @@ fn move_chunk(chunk: &SourceChunk<'_>, bytes: &[u8], output: &mut [u8])
 {
     let job = chunk.job;
     let made = made_array(job);
-    let part = chunk_block(chunk);
     let shape = made.layout.grid.shape();
     gather(
         job.pull,
         job.shapes,
         shape,
         chunk.source,
-        &part,
+        front,
         bytes,
         &result_block(job),
         output,

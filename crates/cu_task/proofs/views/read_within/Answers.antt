@@ -41,6 +41,7 @@ read_piece-requires-clause-chunk g c =
       job = c.requires.part.job;
       source = c.requires.part.source;
       coordinate = c.loop-coord.invariant.left c.in-Some.coord (subst (λ (x : List (List ℕ)). Contains x c.in-Some.coord) (sym e) (first_contains c.in-Some.coord c.next.new.self));
+      hull = c.requires.part.hull;
     }
 
 pub loop-coord-preserved : goal.loop-coord-preserved
