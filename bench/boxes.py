@@ -1,26 +1,36 @@
 #!/usr/bin/env python3
-"""Copies the chunks of an array in memory into a region and out of it, with `take_part` and `lay_part` and with NumPy.
+"""Copies the chunks of an array in memory into a region and out of it, with `take_part` and `lay_part` and with NumPy, and one chunk along
+strides, with `copy_strided` and with NumPy.
 
-  boxes.py [--keep FOLDER] [--runs N] [--rounds N] [--only WORD]
+  boxes.py [--keep FOLDER] [--runs N] [--rounds N] [--only WORD] [--python FILE] [--processor N] [--program FILE..]
 
 The array has 4096 by 4096 elements of 1, 2, 4 or 8 bytes, in chunks of 4096 rows and 1, 2, 4, 16 or 4096 columns. A pass
 copies every chunk into the whole array (a read; little-endian or big-endian chunks), or the whole array into one chunk
 after another (a write). NumPy assigns the same boxes of the same bytes, `out[:, low:high] = chunk` or the other way
-round. Each process makes so many passes, and its least time counts: which of the two is first changes at each round, and
-the least of all rounds is kept. Both print a sum of what was copied.
+round.
 
-The program is written into a copy of the crates that it needs, and `rt run` proves and builds it there. With --keep it is
-kept in that folder, by the sum of its sources, and a later run over the same sources builds nothing. It prints last which of the aims were
+Then come movements of one chunk: transposed, all axes flipped, pairs of axes exchanged, six axes reversed, rows of four turned to four rows,
+an axis stretched to four, and bins, which is a plain copy. NumPy copies the same view of the same bytes, `numpy.copyto(out, view)`. A pass
+copies one chunk. A smaller chunk has so many passes more as it has fewer elements than 4096 by 4096.
+
+Each process makes so many passes, and its least time counts: which of the two is first changes at each round, and the least of all rounds
+is kept. Both print a sum of what was copied. Both run on one processor, with a real-time priority where `chrt` may give one.
+
+The two programs are written into copies of the crates that they need, and `rt run` proves and builds them there. With --keep they are
+kept in that folder, by the sum of their sources, and a later run over the same sources builds nothing. It prints last which of the aims were
 missed.
 """
-import argparse
+import collections
+import math
+import os
 import sys
 import tempfile
 import time
 
 sys.dont_write_bytecode = True
+import moves  # moves.py, in this folder
 import programs  # programs.py, in this folder
-from stored import has_numpy  # stored.py, in this folder
+from stored import can_import  # stored.py, in this folder
 
 NAME = "box_bench"
 NEEDS = "cu_num cu_shape cu_box cu_grid cu_codec".split()
@@ -333,76 +343,100 @@ SOURCES = {"src/main.rt": SOURCE, "proofs/Lib.antt": "pub mod WholeRegion\n", "p
            "proofs/take_one/Answers.antt": TAKE, "proofs/lay_all/Answers.antt": LAY}
 
 
-def peer(way, size, columns, rounds):
-    """NumPy's least seconds of a pass, and the checksum."""
+def by_numpy(way, size, columns, rounds):
+    """Prints NumPy's least nanoseconds of a pass, and the checksum."""
     import numpy
     kind = f"{'>' if way.endswith('big') else '<'}u{size}"
-    bytes_of = lambda count: (numpy.arange(count * size, dtype=numpy.uint64) * 167 % 251).astype(numpy.uint8)
+    pattern = (numpy.arange(251) * 167 % 251).astype(numpy.uint8)
+    bytes_of = lambda count: numpy.tile(pattern, -(-count * size // 251))[:count * size]
     chunk = bytes_of(SIDE * columns).view(kind).reshape(SIDE, columns)
     whole = bytes_of(SIDE * SIDE).view(f"<u{size}").reshape(SIDE, SIDE)
-    least = float("inf")
-    for _ in range(rounds):
-        start = time.perf_counter()
-        if way.startswith("read"):
-            for low in range(0, SIDE, columns):
-                whole[:, low:low + columns] = chunk
-        else:
-            for low in range(0, SIDE, columns):
-                chunk[:] = whole[:, low:low + columns]
-        least = min(least, time.perf_counter() - start)
-    return least, programs.checksum(whole if way.startswith("read") else chunk)
+
+    def read():
+        for low in range(0, SIDE, columns):
+            whole[:, low:low + columns] = chunk
+        return whole
+
+    def write():
+        for low in range(0, SIDE, columns):
+            chunk[:] = whole[:, low:low + columns]
+        return chunk
+
+    print(*programs.least_of(read if way.startswith("read") else write, rounds, 1))
 
 
-def run_peer(words):
-    [(least, told)] = programs.lines_of([sys.executable, __file__, "--peer", *words], "NumPy")
-    return float(least), int(told)
+# What is measured: its name, what is told of it, at most so much of NumPy's time, and the words for the program and for the peer.
+Case = collections.namedtuple("Case", "name told aim own peer")
 
 
-def run_ours(program, words):
-    [(least, told)] = programs.lines_of([program, *words])
-    return int(least) / 1e9, int(told)
-
-
-def compare(program, runs, rounds, only):
-    missed = []
+def cases_of_boxes(given):
     for way, aim in WAYS.items():
         for size in SIZES:
             for columns in ROWS:
-                if only and only not in f"{way}/{size}/{columns}":
-                    continue
-                words = (way, size, columns, rounds)
-                ours, theirs = [], []
-                for turn in range(runs):
-                    for side in (0, 1) if turn % 2 else (1, 0):
-                        if side:
-                            theirs.append(run_peer(words))
-                        else:
-                            ours.append(run_ours(program, words))
-                if ours[0][1] != theirs[0][1]:
-                    raise SystemExit(f"{way} {size} {columns}: not the same bytes")
-                mine, other = min(ours)[0], min(theirs)[0]
-                print(f"  {way:12} {size} bytes, rows of {columns:4}: {mine * 1e3:8.1f} ms, NumPy {other * 1e3:8.1f} ms, ratio {mine / other:5.2f}", flush=True)
-                missed += [f"{way}/{size}/{columns}: {mine / other:.2f} for {aim}"] if mine / other > aim else []
-    print("missed: " + "; ".join(missed) if missed else "no aim was missed")
+                words = way, size, columns, given.rounds
+                yield Case(f"{way}/{size}/{columns}", f"{way:12} {size} bytes, rows of {columns:4}", aim, words, words)
+
+
+def cases_of_moves(given):
+    told = programs.lines_of([given.python, __file__, "--peer", "moves"], "NumPy")
+    for name, source, target, first, *axes in told:
+        move = moves.MOVES[name]
+        passes = given.rounds * max(1, SIDE * SIDE // math.prod(move.shape))
+        for size in SIZES:
+            own = size, source, target, first, passes, *axes
+            yield Case(f"{name}/{size}", f"{name:17} {size} bytes{'':9}", move.aim, own, ("move", name, size, passes))
+
+
+def compare(case, own, peer, runs):
+    """Prints what a case takes. Returns which aims were missed."""
+    commands, found = [[*own, *case.own], [*peer, *case.peer]], [[], []]
+    for turn in range(runs):
+        for side in (0, 1) if turn % 2 else (1, 0):
+            [(least, told)] = programs.lines_of(commands[side], ("the program", "NumPy")[side])
+            found[side].append((int(least), told))
+    if len({told for side in found for _, told in side}) > 1:
+        raise SystemExit(f"{case.name}: not the same bytes")
+    ours, theirs = (min(side)[0] for side in found)
+    print(f"  {case.told}: {ours / 1e6:8.1f} ms, NumPy {theirs / 1e6:8.1f} ms, ratio {ours / theirs:5.2f} (aim {case.aim})", flush=True)
+    return [f"{case.name}: {ours / theirs:.2f} for {case.aim}"] if ours / theirs > case.aim else []
+
+
+def run_peer(words):
+    if words == ["moves"]:
+        moves.tell_words()
+    elif words[0] == "move":
+        moves.by_numpy(words[1], *map(int, words[2:]))
+    else:
+        by_numpy(words[0], *map(int, words[1:]))
+
+
+def measure(given, name, needs, sources, cases):
+    """Measures the cases of a program that are asked for. Returns which aims were missed."""
+    cases = [case for case in cases if given.only in case.name]
+    if not cases:
+        return []
+    ahead = programs.pinned(given.processor)
+    peer = [*ahead, given.python, __file__, "--peer"]
+    with tempfile.TemporaryDirectory(prefix="cubed-program-") as spare:
+        built = [path for path in given.program if os.path.basename(path).startswith(name)]
+        program = os.path.abspath(built[0]) if built else programs.program_in(given.keep or spare, name, needs, sources)
+        return [one for case in cases for one in compare(case, [*ahead, program], peer, given.runs)]
 
 
 def main():
     if sys.argv[1:2] == ["--peer"]:
-        way, size, columns, rounds = sys.argv[2:]
-        print(*peer(way, int(size), int(columns), int(rounds)))
+        run_peer(sys.argv[2:])
         return
-    parser = argparse.ArgumentParser(description=__doc__, formatter_class=argparse.RawDescriptionHelpFormatter)
-    parser.add_argument("--keep", default=None)
-    parser.add_argument("--program", default=None)
-    parser.add_argument("--runs", type=int, default=4)
-    parser.add_argument("--rounds", type=int, default=3)
-    parser.add_argument("--only", default="")
-    told = parser.parse_args()
-    if not has_numpy():
-        raise SystemExit("this Python has no NumPy")
-    with tempfile.TemporaryDirectory(prefix="cubed-program-") as spare:
-        program = told.program or programs.program_in(told.keep or spare, NAME, NEEDS, SOURCES)
-        compare(program, told.runs, told.rounds, told.only)
+    parser = programs.words_of_calls(__doc__)
+    parser.add_argument("--rounds", type=int, default=3, help="how many passes of a process")
+    parser.add_argument("--program", nargs="*", default=[], help="programs that were built before")
+    parser.set_defaults(runs=4)
+    given = parser.parse_args()
+    if not can_import(given.python, "numpy"):
+        raise SystemExit(f"{given.python} has no NumPy")
+    missed = measure(given, NAME, NEEDS, SOURCES, cases_of_boxes(given))
+    missed += measure(given, moves.NAME, moves.NEEDS, moves.SOURCES, cases_of_moves(given))
+    print("missed: " + "; ".join(missed) if missed else "no aim was missed")
 
 
 if __name__ == "__main__":

@@ -140,8 +140,10 @@ def lines_of(command, name="the program"):
 def filled(dtype, count, first=0):
     """So many elements of the bytes from byte `first` on that a program's `fill` writes; of truth values their lowest bits."""
     import numpy
-    place = numpy.arange(first + 1, first + count * numpy.dtype(dtype).itemsize + 1, dtype=numpy.uint64)
-    made = ((place * 2654435761 & 0xFFFFFFFF) >> 24).astype(numpy.uint8)
+    place = numpy.arange(first + 1, first + count * numpy.dtype(dtype).itemsize + 1, dtype=numpy.uint32)
+    place *= numpy.uint32(2654435761)  # (modulo 2^32, as there)
+    place >>= numpy.uint32(24)
+    made = place.astype(numpy.uint8)
     return (made & 1).view(bool) if dtype == "bool" else made.view(dtype)
 
 
