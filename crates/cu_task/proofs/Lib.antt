@@ -25,6 +25,7 @@ pub mod ScanTask
 pub mod SearchTask
 pub mod Serving
 pub mod Standing
+pub mod StraightReads
 pub mod StripBytes
 pub mod StripTask
 pub mod SumTasks

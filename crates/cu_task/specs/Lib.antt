@@ -6,6 +6,7 @@ pub mod Inputs
 pub mod Inside
 pub mod OfTask
 pub mod Serving
+pub mod Straight
 pub mod Strips
 pub mod Task
 pub mod TaskRoom

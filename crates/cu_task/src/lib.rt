@@ -17,6 +17,7 @@ mod room;
 mod run;
 mod scans;
 mod searches;
+mod straight;
 mod strips;
 mod views;
 mod yards;

@@ -12,14 +12,16 @@ ghost use Rattle.cu_region.specs.Reading.{key_at, IsChunkReadFault};
 ghost use Rattle.cu_region.specs.Writing.{AreElements};
 ghost use Rattle.cu_task.specs.Views.{source_in, is_exact, source_calls, sure_calls, view_calls, IsSourceKey, IsKnown, HaveCome, IsAny, HasPulled};
 ghost use Rattle.cu_task.specs.ViewJobs.{IsViewJob, view_task_of, made_in, buffer_room, source_room, view_of_part, IsSourceRegion, IsSourceChunk, IsChunkRegion, view_of_chunk, source_of_chunk, room_for_chunk, IsKeyOfSource, is_needed_chunk, calls_for_chunk, HaveComeFrom, IsMovedFrom, HasHull, IsFront, IsViewFault};
+ghost use Rattle.cu_task.specs.Straight.{IsStraight};
 ghost use Rattle.cu_task.specs.ViewJobs.{tally_for_chunk, tally_for_source, tally_for_sources, IsExactJob};
 
+use crate::straight::is_straight;
 use arrayvec::ArrayVec;
 use cu_grid::Region;
 use cu_num::size;
 use cu_op::{ArrayInfo, PlanTask};
 use cu_origin::Pull;
-use cu_region::read_front;
+use cu_region::{read_chunk, read_front};
 use cu_shape::{Dims, difference};
 use cu_store::{Chunks, TaskFault};
 use cu_view::{gather, hull_of, lay_constants, touches_of};
@@ -92,7 +94,7 @@ pub(crate) fn lay_numbers(job: &ViewJob<'_>, output: &mut [u8])
 }
 
 /// The array that a view makes.
-fn made_array<'a>(job: &ViewJob<'a>) -> &'a ArrayInfo
+pub(crate) fn made_array<'a>(job: &ViewJob<'a>) -> &'a ArrayInfo
     requires { IsViewJob job.now }
     ensures { result.now ≡ made_in (view_task_of job.now) }
 {
@@ -100,7 +102,7 @@ fn made_array<'a>(job: &ViewJob<'a>) -> &'a ArrayInfo
 }
 
 /// The region of the task in its buffer.
-fn result_block(job: &ViewJob<'_>) -> Block
+pub(crate) fn result_block(job: &ViewJob<'_>) -> Block
     requires { IsViewJob job.now }
     ensures lo { result.region.lo ≡ (view_task_of job.now).lo }
     ensures hi { result.region.hi ≡ (view_task_of job.now).hi }
@@ -260,7 +262,7 @@ fn read_within<C: Chunks>(
 }
 
 /// The array that is a source.
-fn source_array<'a>(job: &ViewJob<'a>, source: u32) -> &'a ArrayInfo
+pub(crate) fn source_array<'a>(job: &ViewJob<'a>, source: u32) -> &'a ArrayInfo
     requires job { IsViewJob job.now }
     requires source { source < length job.now.ins.now }
     ensures { result.now ≡ source_in (view_task_of job.now) source }
@@ -321,7 +323,7 @@ fn is_needed(chunk: &SourceChunk<'_>) -> bool
 }
 
 /// The region of a source that a chunk of it has.
-fn chunk_part(chunk: &SourceChunk<'_>) -> Region
+pub(crate) fn chunk_part(chunk: &SourceChunk<'_>) -> Region
     requires { IsSourceChunk chunk.now }
     ensures { IsChunkRegion chunk.now result }
 {
@@ -346,8 +348,8 @@ fn chunk_block(chunk: &SourceChunk<'_>) -> Block
     }
 }
 
-/// The elements of a chunk of a source up to the last row, along its first axis, of which something is needed. Row-major they
-/// are the chunk's first, so that a read from its beginning has them.
+/// The elements of a chunk of a source up to the last row, along its first axis, of which something
+/// is needed. Row-major they are the chunk's first, so that a read from its beginning has them.
 fn front_block(chunk: &SourceChunk<'_>) -> Block
     requires { IsSourceChunk chunk.now }
     ensures { IsFront chunk.now result }
@@ -375,9 +377,68 @@ fn front_bytes(chunk: &SourceChunk<'_>, front: &Block) -> usize
     }
 }
 
-/// Reads the front of one chunk of a source, with all that is needed of it, into the front of `scratch`, and takes the elements
-/// of the region that come from it.
+/// Takes the elements of the region that come from one chunk of a source. Where the region is the
+/// chunk, nothing is moved, and else they go through `scratch`.
 fn take_chunk<C: Chunks>(
+    store: &C::Store,
+    access: &mut C::Access,
+    chunk: &SourceChunk<'_>,
+    output: &mut [u8],
+    scratch: &mut [u8],
+) -> Result<(), TaskFault>
+    requires belongs { C.belongs store.now access.old }
+    requires may { Keeps (IsKeyOfSource chunk.now) (C.may_get store.now access.old) }
+    requires chunk { IsSourceChunk chunk.now }
+    requires output { length output.old ≡ buffer_room (view_of_chunk chunk.now) }
+    requires scratch { room_for_chunk chunk.now ≤ length scratch.old }
+    ensures open { StaysOpen (C.belongs store.now access.new) (C.may_get store.now access.old)
+        (C.may_get store.now access.new) }
+    ensures takes { (told : Option Contents)
+        → IsKnown (IsKeyOfSource chunk.now) told (C.shown access.old)
+        → OnOk result (HaveComeFrom chunk.now told output.old output.new) }
+    ensures step { Steps NoChange 1 1 (C.shown access.old) (C.shown access.new) }
+    ensures called { Adds (C.weight store.now (key_at (source_of_chunk chunk.now) chunk.now.coord))
+        (C.tally access.old) (C.tally access.new) }
+    ensures cause { IfErr result (IsChunkReadFault (C.shown access.old) (C.shown access.new)
+        (IsKeyOfSource chunk.now) (room_for_chunk chunk.now)) }
+{
+    if is_straight(chunk) {
+        take_straight::<C>(store, access, chunk, output)
+    } else {
+        take_front::<C>(store, access, chunk, output, scratch)
+    }
+}
+
+/// Reads a chunk of a source into the region's buffer, where the region is the chunk.
+fn take_straight<C: Chunks>(
+    store: &C::Store,
+    access: &mut C::Access,
+    chunk: &SourceChunk<'_>,
+    output: &mut [u8],
+) -> Result<(), TaskFault>
+    requires belongs { C.belongs store.now access.old }
+    requires may { Keeps (IsKeyOfSource chunk.now) (C.may_get store.now access.old) }
+    requires chunk { IsSourceChunk chunk.now }
+    requires output { length output.old ≡ buffer_room (view_of_chunk chunk.now) }
+    requires straight { IsStraight chunk.now }
+    ensures open { StaysOpen (C.belongs store.now access.new) (C.may_get store.now access.old)
+        (C.may_get store.now access.new) }
+    ensures takes { (told : Option Contents)
+        → IsKnown (IsKeyOfSource chunk.now) told (C.shown access.old)
+        → OnOk result (HaveComeFrom chunk.now told output.old output.new) }
+    ensures step { Steps NoChange 1 1 (C.shown access.old) (C.shown access.new) }
+    ensures called { Adds (C.weight store.now (key_at (source_of_chunk chunk.now) chunk.now.coord))
+        (C.tally access.old) (C.tally access.new) }
+    ensures cause { IfErr result (IsChunkReadFault (C.shown access.old) (C.shown access.new)
+        (IsKeyOfSource chunk.now) (room_for_chunk chunk.now)) }
+{
+    let from = source_array(chunk.job, chunk.source);
+    read_chunk::<C>(store, access, from, &chunk.coord, output)
+}
+
+/// Reads the front of one chunk of a source, with all that is needed of it, into the front of
+/// `scratch`, and takes the elements of the region that come from it.
+fn take_front<C: Chunks>(
     store: &C::Store,
     access: &mut C::Access,
     chunk: &SourceChunk<'_>,

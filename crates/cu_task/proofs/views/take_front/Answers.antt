@@ -15,7 +15,7 @@ use Rattle.cu_task.proofs.JobViews.{fitting, source_below, source_array_ok}
 use Rattle.cu_task.proofs.Fronts.{in_front, front_whole}
 use Rattle.cu_task.proofs.ViewElements.{takes_chunk}
 use Rattle.cu_store.specs.Chunks.{Adds}
-use Rattle.cu_task.proofs.views.take_chunk.Goals as goal
+use Rattle.cu_task.proofs.views.take_front.Goals as goal
 
 pub read_front-requires-clause-short : goal.read_front-requires-clause-short
 read_front-requires-clause-short g c = (source_array_ok c.args.chunk.now.job.now c.requires.chunk.job c.args.chunk.now.source c.source_array-from.result.now c.requires.chunk.source c.source_array-from.ensures).short

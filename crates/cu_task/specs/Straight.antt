@@ -1,0 +1,39 @@
+-- Views that leave a chunk of a source as it stands. This project's own rules.
+use Rattle.std.specs.Prelude.{◌≡◌, ℕ, ◌+◌, ◌-◌, ◌<◌, ◌≤◌, List, slice_index}
+use Rattle.cu_shape.specs.Index.{sums, differences}
+use Rattle.cu_grid.specs.Counts.{IsWithin, chunk_lo}
+use Rattle.cu_grid.specs.declared.region.Region.{Region}
+use Rattle.cu_origin.specs.declared.provenance.Provenance.TheVariants.{From}
+use Rattle.cu_view_box.specs.Piece.{count_along, read_at}
+use Rattle.cu_view_box.specs.Way.{read_by}
+use Rattle.cu_view_box.specs.declared.piece.Piece.{Piece}
+use Rattle.cu_view_box.specs.declared.way.Way.{Way}
+use Rattle.cu_task.specs.ViewJobs.{made_in, view_of_chunk, source_of_chunk}
+use Rattle.cu_task.specs.Views.{origin_in}
+use Rattle.cu_task.specs.declared.views.SourceChunk.{SourceChunk}
+
+-- from a count on a way reads, for each of so many counts along this axis of the result, the next index, and `first` at first
+pub record IsShift (way : Way) (axis from count first : ℕ) : Type 0 where
+  pub along : (lo idx : List ℕ) → read_by way (count_along lo idx way) ≡ read_by way (slice_index idx axis - slice_index lo axis)
+  pub reads : (t : ℕ) → t < count → read_by way (from + t) ≡ first + t
+
+-- over a region of the result the piece reads, on this axis, index after index from `first` on
+abbrev pub ReadsFromOn : Piece → Region → ℕ → ℕ → Type 0
+ReadsFromOn piece out first axis = (idx : List ℕ) → slice_index out.lo axis ≤ slice_index idx axis → slice_index idx axis < slice_index out.hi axis
+    → (slice_index piece.region.lo axis ≤ slice_index idx axis) × (slice_index idx axis < slice_index piece.region.hi axis)
+    × (slice_index (read_at piece idx) axis ≡ first + (slice_index idx axis - slice_index out.lo axis))
+
+-- the same of all axes
+abbrev pub ReadsFrom : Piece → Region → List ℕ → Type 0
+ReadsFrom piece out first = (idx : List ℕ) → IsWithin out.lo out.hi idx → IsWithin piece.region.lo piece.region.hi idx × (read_at piece idx ≡ sums first (differences idx out.lo))
+
+-- the elements of the task's region are those of the source from the chunk's first index on
+abbrev pub IsShifted : SourceChunk → Type 0
+IsShifted chunk = (idx : List ℕ) → IsWithin (view_of_chunk chunk).lo (view_of_chunk chunk).hi idx
+    → origin_in (view_of_chunk chunk) idx ≡ From chunk.source (sums (chunk_lo (source_of_chunk chunk).layout.grid.chunk chunk.coord) (differences idx (view_of_chunk chunk).lo))
+
+-- and they are as many as the chunk's, and of the same type: the region is the chunk
+pub record IsStraight (chunk : SourceChunk) : Type 0 where
+  pub dtype : (source_of_chunk chunk).layout.dtype ≡ (made_in (view_of_chunk chunk)).layout.dtype
+  pub sizes : differences (view_of_chunk chunk).hi (view_of_chunk chunk).lo ≡ (source_of_chunk chunk).layout.grid.chunk
+  pub shifted : IsShifted chunk
