@@ -9,6 +9,7 @@ pub mod Inside
 pub mod JobViews
 pub mod LabelPlan
 pub mod LabelTask
+pub mod LastConversion
 pub mod MadeParts
 pub mod MapTask
 pub mod MatrixBlocks

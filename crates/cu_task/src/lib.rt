@@ -2,6 +2,7 @@
 #![tactic(auto)]
 
 mod compute;
+mod conversions;
 mod copies;
 mod groups;
 mod inner;

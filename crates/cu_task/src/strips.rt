@@ -9,6 +9,7 @@ ghost use Rattle.cu_kern.specs.Lays.{LayFits, lay_types};
 ghost use Rattle.cu_task.specs.OfTask.{own_words, read_bytes, made_bytes, AreOfItsType};
 ghost use Rattle.cu_task.specs.Strips.{mapped_at, FoldsMap, IsMadeThrough, IsNumberOf};
 
+use crate::conversions::{takes_all_types, unconverted};
 use crate::inner::inner_task;
 use crate::inputs::{input_walk, lays_of};
 use crate::reductions::dtype_of;
@@ -93,7 +94,53 @@ pub(crate) fn fold_map(
     };
     strips_law();
     let words = &mut words[..64 * kernel.code.len()];
-    fold_strips(&fold, map, strip, output, words);
+    fold_unconverted(&fold, map, strip, output, words);
+}
+
+/// `fold_strips`, without a last conversion of the map that changes no number: the strips then have
+/// more elements, and the fold reads fewer bytes.
+fn fold_unconverted(
+    fold: &RegionFold,
+    map: RegionMap<'_>,
+    strip: &mut [u8],
+    output: &mut [u8],
+    words: &mut [u64],
+)
+    requires types { Accumulates fold.now.kind fold.now.from fold.now.acc }
+    requires kernel { KernelFits map.kernel.now.code.items (lay_types map.lays.now.items) [] fold.now.from }
+    requires lays { All (LayFits fold.now.dims (length map.inputs.now)) map.lays.now.items }
+    requires small { product fold.now.dims < 2 ^ 63 }
+    requires strip { length strip.old ≡ product fold.now.dims * size_of fold.now.from }
+    requires output { length output.old ≡ product (result_sizes fold.now) * size_of fold.now.acc }
+    requires words { length words.old ≡ 64 * length map.kernel.now.code.items }
+    ensures values { (p : ℕ) → p < product fold.now.dims → IsNumberOf fold.now.from (mapped_at map.entry fold.now.dims p) }
+    ensures folded { (at : ℕ → ℤ) → ((p : ℕ) → p < product fold.now.dims → mapped_at map.entry fold.now.dims p ≡ Some (at p))
+        → HasFoldedTo fold.now at (product fold.now.dims) output.new }
+{
+    if takes_all_types(fold.kind) {
+        if let Some(shorter) = unconverted(map.kernel, map.lays.as_slice(), fold.from) {
+            let all = strip.len() / size(fold.from) as usize;
+            let bytes = all * size(shorter.dtype) as usize;
+            let steps = shorter.kernel.code.len();
+            let own = RegionFold {
+                from: shorter.dtype,
+                ..*fold
+            };
+            let map = RegionMap {
+                kernel: &shorter.kernel,
+                ..map
+            };
+            fold_strips(
+                &own,
+                map,
+                &mut strip[..bytes],
+                output,
+                &mut words[..64 * steps],
+            );
+            return;
+        }
+    }
+    fold_strips(fold, map, strip, output, words);
 }
 
 /// Makes the map's result strip by strip, and takes each into the results in `output`.

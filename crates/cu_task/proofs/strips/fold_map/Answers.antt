@@ -20,30 +20,30 @@ difference-requires c = let e = region_lengths _ _ _ c.input_walk-walk.ensures.o
 
 -- ---- the fold
 
-pub fold_strips-requires-clause-types : goal.fold_strips-requires-clause-types
-fold_strips-requires-clause-types c =
+pub fold_unconverted-requires-clause-types : goal.fold_unconverted-requires-clause-types
+fold_unconverted-requires-clause-types c =
     (fold_found c.args.task.now c.operation.ensures.sound (sym c.operation.ensures.operation ∙ c.in-Fold.is) c.input_walk-walk.ensures.walk c.dtype_of.ensures c.dtype_of-2.ensures c.difference.ensures).types
 
-pub fold_strips-requires-clause-small : goal.fold_strips-requires-clause-small
-fold_strips-requires-clause-small c =
+pub fold_unconverted-requires-clause-small : goal.fold_unconverted-requires-clause-small
+fold_unconverted-requires-clause-small c =
     let found = fold_found c.args.task.now c.operation.ensures.sound (sym c.operation.ensures.operation ∙ c.in-Fold.is) c.input_walk-walk.ensures.walk c.dtype_of.ensures c.dtype_of-2.ensures c.difference.ensures in
     let few = found.few in
     omega (arith, few)
 
-pub fold_strips-requires-clause-strip : goal.fold_strips-requires-clause-strip
-fold_strips-requires-clause-strip c =
+pub fold_unconverted-requires-clause-strip : goal.fold_unconverted-requires-clause-strip
+fold_unconverted-requires-clause-strip c =
     let found = fold_found c.args.task.now c.operation.ensures.sound (sym c.operation.ensures.operation ∙ c.in-Fold.is) c.input_walk-walk.ensures.walk c.dtype_of.ensures c.dtype_of-2.ensures c.difference.ensures in
     c.requires.strip ∙ found.input
 
-pub fold_strips-requires-clause-output : goal.fold_strips-requires-clause-output
-fold_strips-requires-clause-output c =
+pub fold_unconverted-requires-clause-output : goal.fold_unconverted-requires-clause-output
+fold_unconverted-requires-clause-output c =
     let found = fold_found c.args.task.now c.operation.ensures.sound (sym c.operation.ensures.operation ∙ c.in-Fold.is) c.input_walk-walk.ensures.walk c.dtype_of.ensures c.dtype_of-2.ensures c.difference.ensures in
     c.requires.output ∙ found.output
 
 -- ---- the map
 
-pub fold_strips-requires-clause-kernel : goal.fold_strips-requires-clause-kernel
-fold_strips-requires-clause-kernel c =
+pub fold_unconverted-requires-clause-kernel : goal.fold_unconverted-requires-clause-kernel
+fold_unconverted-requires-clause-kernel c =
     let found = fold_found c.args.task.now c.operation.ensures.sound (sym c.operation.ensures.operation ∙ c.in-Fold.is) c.input_walk-walk.ensures.walk c.dtype_of.ensures c.dtype_of-2.ensures c.difference.ensures in
     let kernel = kernel_found c.args.map.now c.operation-2.ensures.sound c.in-Map.kernel (subst (λ (o : Op). IsMapOf o c.in-Map.kernel) (sym (sym c.operation-2.ensures.operation ∙ c.in-Map.is)) refl)
     (c.lays_of-lays.ensures ∙ ap (lays_from c.args.map.now.plan.arrays 0) c.input_walks.ensures.walks)
@@ -51,8 +51,8 @@ fold_strips-requires-clause-kernel c =
     (c.difference.ensures ∙ ap (λ (w : Walk). differences w.region.hi w.region.lo) c.input_walk-walk.ensures.walk ∙ sym c.requires.map.inside.sizes) in
     kernel.fits
 
-pub fold_strips-requires-clause-lays : goal.fold_strips-requires-clause-lays
-fold_strips-requires-clause-lays c =
+pub fold_unconverted-requires-clause-lays : goal.fold_unconverted-requires-clause-lays
+fold_unconverted-requires-clause-lays c =
     let found = fold_found c.args.task.now c.operation.ensures.sound (sym c.operation.ensures.operation ∙ c.in-Fold.is) c.input_walk-walk.ensures.walk c.dtype_of.ensures c.dtype_of-2.ensures c.difference.ensures in
     let kernel = kernel_found c.args.map.now c.operation-2.ensures.sound c.in-Map.kernel (subst (λ (o : Op). IsMapOf o c.in-Map.kernel) (sym (sym c.operation-2.ensures.operation ∙ c.in-Map.is)) refl)
     (c.lays_of-lays.ensures ∙ ap (lays_from c.args.map.now.plan.arrays 0) c.input_walks.ensures.walks)
@@ -69,17 +69,17 @@ returns-clause-values c =
     (c.lays_of-lays.ensures ∙ ap (lays_from c.args.map.now.plan.arrays 0) c.input_walks.ensures.walks)
     (found.source ∙ ap (λ (w : Walk). type_at c.args.task.now.plan.arrays w.array) c.input_walk-walk.ensures.walk ∙ sym c.requires.map.inside.typed)
     (c.difference.ensures ∙ ap (λ (w : Walk). differences w.region.hi w.region.lo) c.input_walk-walk.ensures.walk ∙ sym c.requires.map.inside.sizes) in
-    let (between, made) = written_out c.dtype_of.result (product c.difference.result) _ c.fold_strips.ensures.values in
+    let (between, made) = written_out c.dtype_of.result (product c.difference.result) _ c.fold_unconverted.ensures.values in
     record {
       between = between;
       inner_made = kernel.made c.args.inputs.now between made;
-      outer_made = found.values between c.fold_strips.new.output
-          (c.strips_law.ensures _ (element_at Little c.dtype_of.result between) c.fold_strips.new.output found.types found.enough (c.fold_strips.ensures.folded (element_at Little c.dtype_of.result between) made));
+      outer_made = found.values between c.fold_unconverted.new.output
+          (c.strips_law.ensures _ (element_at Little c.dtype_of.result between) c.fold_unconverted.new.output found.types found.enough (c.fold_unconverted.ensures.folded (element_at Little c.dtype_of.result between) made));
     }
 
 pub returns-clause-elements : goal.returns-clause-elements
 returns-clause-elements c =
     let found = fold_found c.args.task.now c.operation.ensures.sound (sym c.operation.ensures.operation ∙ c.in-Fold.is) c.input_walk-walk.ensures.walk c.dtype_of.ensures c.dtype_of-2.ensures c.difference.ensures in
-    let (between, made) = written_out c.dtype_of.result (product c.difference.result) _ c.fold_strips.ensures.values in
-    found.elements between c.fold_strips.new.output (c.fold_strips.auto.output ∙ c.requires.output ∙ found.output)
-    (c.strips_law.ensures _ (element_at Little c.dtype_of.result between) c.fold_strips.new.output found.types found.enough (c.fold_strips.ensures.folded (element_at Little c.dtype_of.result between) made))
+    let (between, made) = written_out c.dtype_of.result (product c.difference.result) _ c.fold_unconverted.ensures.values in
+    found.elements between c.fold_unconverted.new.output (c.fold_unconverted.auto.output ∙ c.requires.output ∙ found.output)
+    (c.strips_law.ensures _ (element_at Little c.dtype_of.result between) c.fold_unconverted.new.output found.types found.enough (c.fold_unconverted.ensures.folded (element_at Little c.dtype_of.result between) made))
