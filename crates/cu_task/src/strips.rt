@@ -18,7 +18,7 @@ use cu_fold::{RegionFold, begin_fold, strips_law, take_strip};
 use cu_kern::{Lay, PlaceRange, run_kernel_at};
 use cu_num::size;
 use cu_op::{Kernel, Op, PlanTask};
-use cu_shape::difference;
+use cu_shape::{Dims, difference};
 
 /// The bytes of a strip. The fold reads it right after the map has written it, at the same place
 /// of the memory each time, so it should fit into a core's second cache with what the map reads.
@@ -165,7 +165,7 @@ fn fold_strips(
     begin_fold(fold, output);
     let size = size(fold.from) as usize;
     let all = strip.len() / size;
-    let most = STRIP / size;
+    let most = strip_elements(&fold.dims, size);
     let mut done = 0;
     while done < all {
         let count = (all - done).min(most);
@@ -180,4 +180,22 @@ fn fold_strips(
         take_strip(fold, done, count, part, output);
         done += count;
     }
+}
+
+/// The elements of `size` bytes that a strip has: where it can, all those of some indices of the
+/// region's first axis, since the fold takes whole rows together.
+fn strip_elements(dims: &Dims, size: usize) -> usize
+    requires small { product dims.now < 2 ^ 63 }
+    requires size { 0 < size }
+    ensures { 0 < result }
+{
+    let most = (STRIP / size).max(1);
+    if dims.rank() == 0 || dims.at(0) == 0 {
+        return most;
+    }
+    let row = (dims.product() / dims.at(0)) as usize;
+    if row == 0 || row > most {
+        return most;
+    }
+    most - most % row
 }
