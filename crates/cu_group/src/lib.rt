@@ -2,7 +2,6 @@
 #![tactic(auto)]
 
 mod blocks;
-mod by_type;
 mod laws;
 mod regions;
 mod rows;
