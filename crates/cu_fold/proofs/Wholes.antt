@@ -85,16 +85,16 @@ filtered_same f g t a (suc n) h =
 pub whole_part : (fold : Fold) (n c a : ℕ) (b : Test) (ls : List Level) (input old new old_part new_part : List ℕ)
     → ((q k : ℕ) → q ≡ a * result_step (sized n b) ls + k → k < results (sized c b ∷ ls)
     → (bytes_at fold.acc old q ≡ bytes_at fold.acc old_part k) × (bytes_at fold.acc new q ≡ bytes_at fold.acc new_part k))
-    → ((q : ℕ) → q < results (sized n b ∷ ls) → ((k : ℕ) → k < results (sized c b ∷ ls) → q ≢ a * result_step (sized n b) ls + k) → bytes_at fold.acc new q ≡ bytes_at fold.acc old q)
+    → ((q : ℕ) → ((k : ℕ) → k < results (sized c b ∷ ls) → q ≢ a * result_step (sized n b) ls + k) → bytes_at fold.acc new q ≡ bytes_at fold.acc old q)
     → TakesAll fold (sized c b ∷ ls) input old_part new_part
     → TakesPart fold (sized n b ∷ ls) (record { start = a * extent ls; count = c * extent ls }) input old new
 whole_part fold n c a b ls input old new old_part new_part inside outside h = record {
   each = λ at agrees q less.
       ⊎_elim
-      (λ (below : q < a * result_step (sized n b) ls). none at q less (λ k less e. omega arith))
+      (λ (below : q < a * result_step (sized n b) ls). none at q (λ k less e. omega arith))
       (λ (from : a * result_step (sized n b) ls ≤ q). ⊎_elim
       (λ (below : q < a * result_step (sized n b) ls + results (sized c b ∷ ls)). own at agrees q (q - a * result_step (sized n b) ls) (omega arith) (omega arith))
-      (λ (past : a * result_step (sized n b) ls + results (sized c b ∷ ls) ≤ q). none at q less (λ k less e. omega arith))
+      (λ (past : a * result_step (sized n b) ls + results (sized c b ∷ ls) ≤ q). none at q (λ k less e. omega arith))
       (cases_lt q (a * result_step (sized n b) ls + results (sized c b ∷ ls))))
       (cases_lt q (a * result_step (sized n b) ls));
 }
@@ -111,12 +111,12 @@ whole_part fold n c a b ls input old new old_part new_part inside outside h = re
         ∙ filter_shift (λ p. result_of (sized n b ∷ ls) p == q) (λ p. result_of (sized c b ∷ ls) p == k) (a * extent ls) 0 (c * extent ls)
         (λ j less. let turn : 0 + j < c * extent ls = omega arith in ap (λ r. r == q) (at_place (0 + j) turn) ∙ same_behind (a * result_step (sized n b) ls) (result_of (sized c b ∷ ls) (0 + j)) k q e)
 
-    none : (at : ℕ → ℤ) (q : ℕ) → q < results (sized n b ∷ ls) → ((k : ℕ) → k < results (sized c b ∷ ls) → q ≢ a * result_step (sized n b) ls + k) → HasTaken fold.kind fold.acc old new q (map at (places_in (sized n b ∷ ls) q (a * extent ls) (c * extent ls)))
-    none at q less other =
+    none : (at : ℕ → ℤ) (q : ℕ) → ((k : ℕ) → k < results (sized c b ∷ ls) → q ≢ a * result_step (sized n b) ls + k) → HasTaken fold.kind fold.acc old new q (map at (places_in (sized n b ∷ ls) q (a * extent ls) (c * extent ls)))
+    none at q other =
         let empty : places_in (sized n b ∷ ls) q (a * extent ls) (c * extent ls) ≡ [] =
         filter_none (λ p. result_of (sized n b ∷ ls) p == q) (a * extent ls) (c * extent ls)
-        (λ j inner. not_same (result_of (sized n b ∷ ls) (a * extent ls + j)) q (λ e. other (result_of (sized c b ∷ ls) j) (result_below (sized c b ∷ ls) j inner) (sym e ∙ at_place j inner))) in
-        subst (λ xs. HasTaken fold.kind fold.acc old new q xs) (ap (map at) (sym empty)) (takes_none fold.kind fold.acc old new q (outside q less other))
+        (λ j less. not_same (result_of (sized n b ∷ ls) (a * extent ls + j)) q (λ e. other (result_of (sized c b ∷ ls) j) (result_below (sized c b ∷ ls) j less) (sym e ∙ at_place j less))) in
+        subst (λ xs. HasTaken fold.kind fold.acc old new q xs) (ap (map at) (sym empty)) (takes_none fold.kind fold.acc old new q (outside q other))
 
     own : (at : ℕ → ℤ) → ((k : ℕ) → k < c * extent ls → at (a * extent ls + k) ≡ element_at Little fold.from input k) → (q k : ℕ) → q ≡ a * result_step (sized n b) ls + k → k < results (sized c b ∷ ls)
         → HasTaken fold.kind fold.acc old new q (map at (places_in (sized n b ∷ ls) q (a * extent ls) (c * extent ls)))

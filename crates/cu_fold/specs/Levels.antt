@@ -3,7 +3,7 @@ use Rattle.std.specs.Prelude.{◌≡◌, ℕ, zero, suc, ◌+◌, ◌*◌, ◌/�
 use Rattle.std.specs.List.{range_with_len, filter}
 use Rattle.cu_fold.specs.declared.levels.Level.{Level}
 use Rattle.cu_fold.specs.declared.levels.Leaf.{Leaf}
-use Rattle.cu_fold.specs.declared.levels.Leaf.TheVariants.{Run, Row, Runs, Rows}
+use Rattle.cu_fold.specs.declared.levels.Leaf.TheVariants.{Run, Row, Runs}
 
 -- how many elements there are, and how many results
 abbrev pub extent : List Level → ℕ
@@ -53,7 +53,6 @@ abbrev pub leaf_levels : Leaf → List Level
 leaf_levels (Run n) = record { size = n; is_reduced = true } ∷ []
 leaf_levels (Row n) = record { size = n; is_reduced = false } ∷ []
 leaf_levels (Runs n r) = record { size = n; is_reduced = false } ∷ record { size = r; is_reduced = true } ∷ []
-leaf_levels (Rows n w) = record { size = n; is_reduced = true } ∷ record { size = w; is_reduced = false } ∷ []
 
 -- the same elements go into the same results
 pub record IsAlike (xs ys : List Level) : Type 0 where

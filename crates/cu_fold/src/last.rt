@@ -10,7 +10,6 @@ use crate::levels::Leaf;
 use crate::truths::take_any;
 use crate::types::Fold;
 use cu_num::{Dtype, FoldKind};
-use cu_take::{RowBlock, take_rows};
 
 /// Takes the elements of a region of these levels into its results.
 pub(crate) fn take_last(fold: Fold, leaf: Leaf, input: &[u8], out: &mut [u8])
@@ -224,9 +223,5 @@ fn by_leaf(kind: FoldKind, from: Dtype, acc: Dtype, leaf: Leaf, input: &[u8], ou
         Leaf::Run(count) => take_run(kind, from, acc, count, input, out),
         Leaf::Row(count) => take_row(kind, from, acc, count, input, out),
         Leaf::Runs(count, width) => take_runs(kind, from, acc, count, width, input, out),
-        Leaf::Rows(count, width) => {
-            let rows = RowBlock { count, width };
-            take_rows(kind, from, acc, rows, input, 0, out, 0)
-        }
     }
 }

@@ -24,8 +24,6 @@ pub(crate) enum Leaf {
     Row(usize),
     /// So many runs of so many elements, each of a result of its own.
     Runs(usize, usize),
-    /// So many rows of so many elements, all into one row of results.
-    Rows(usize, usize),
 }
 
 /// At most six levels: the first `count` of a list.

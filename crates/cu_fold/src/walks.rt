@@ -1,5 +1,5 @@
 //! Regions walked level by level.
-ghost use Rattle.std.specs.Prelude.{◌≡◌, ◌+◌, ◌-◌, ◌*◌, ◌^◌, ◌<◌, ◌≤◌, ℕ, min, true, not, [], ◌∷◌, if◌then◌else◌, length};
+ghost use Rattle.std.specs.Prelude.{◌≡◌, ◌+◌, ◌-◌, ◌*◌, ◌^◌, ◌<◌, ◌≤◌, ℕ, min, true, false, [], ◌∷◌, if◌then◌else◌, length};
 ghost use Rattle.cu_num.specs.Dtype.{size_of};
 ghost use Rattle.cu_reduce.specs.Kinds.{Accumulates};
 ghost use Rattle.cu_fold.specs.Levels.{extent, results};
@@ -123,33 +123,31 @@ fn whole_indices(places: Places, inner: usize) -> Whole
     }
 }
 
-/// Takes the elements of whole indices of a level, rows or runs, into the results that stand in `out`.
+/// Takes the elements of whole indices of a level, each of which is a short run, into the results that stand in `out`.
 fn take_whole(fold: Fold, level: Level, inner: Level, whole: Whole, input: &[u8], out: &mut [u8])
     requires types { Accumulates fold.kind fold.from fold.acc }
-    requires kinds { inner.is_reduced ≡ not level.is_reduced }
+    requires kept { level.is_reduced ≡ false }
+    requires reduced { inner.is_reduced ≡ true }
     requires indices { whole.first + whole.count ≤ level.size }
     requires input { whole.count * inner.size * size_of fold.from ≤ length input.now }
     requires out { length out.old ≡ results (level ∷ inner ∷ []) * size_of fold.acc }
     ensures { TakesPart fold (level ∷ inner ∷ []) (record { start = whole.first * inner.size; count = whole.count * inner.size }) input.now out.old out.new }
 {
-    if level.is_reduced {
-        take_last(fold, Leaf::Rows(whole.count, inner.size), input, out);
-    } else {
-        let size = size(fold.acc) as usize;
-        let start = whole.first * size;
-        take_last(
-            fold,
-            Leaf::Runs(whole.count, inner.size),
-            input,
-            &mut out[start..start + whole.count * size],
-        );
-    }
+    let size = size(fold.acc) as usize;
+    let start = whole.first * size;
+    take_last(
+        fold,
+        Leaf::Runs(whole.count, inner.size),
+        input,
+        &mut out[start..start + whole.count * size],
+    );
 }
 
 /// Takes the elements of some places of a region of two levels into the results that stand in `out`: whole indices by one loop.
 fn take_pair(fold: Fold, level: Level, inner: Level, places: Places, input: &[u8], out: &mut [u8])
     requires types { Accumulates fold.kind fold.from fold.acc }
-    requires kinds { inner.is_reduced ≡ not level.is_reduced }
+    requires kept { level.is_reduced ≡ false }
+    requires reduced { inner.is_reduced ≡ true }
     requires inner { 0 < inner.size }
     requires places { places.start + places.count ≤ level.size * inner.size }
     requires size { level.size * inner.size < 2 ^ 64 }
@@ -185,14 +183,12 @@ fn take_pair(fold: Fold, level: Level, inner: Level, places: Places, input: &[u8
     take_index(fold, level, inner, end, tail, later(input, past, size), out);
 }
 
-/// Whether one loop takes the indices of a level, each of which has one level more: rows, or short runs.
-fn is_pair(level: Level, inner: Level) -> bool
-    ensures { result ≡ true → inner.is_reduced ≡ not level.is_reduced }
+/// Whether the indices of a level, each of which has one level more, are short runs.
+fn has_short_runs(level: Level, inner: Level) -> bool
+    ensures kept { result ≡ true → level.is_reduced ≡ false }
+    ensures reduced { result ≡ true → inner.is_reduced ≡ true }
 {
-    if level.is_reduced {
-        return !inner.is_reduced;
-    }
-    inner.is_reduced && inner.size <= SHORT
+    !level.is_reduced && inner.is_reduced && inner.size <= SHORT
 }
 
 /// Takes the elements of some places of a region into the results that stand in `out`. The region has these levels, and `whole` places.
@@ -224,7 +220,7 @@ pub(crate) fn take_part(
         return;
     }
     if let [inner] = rest {
-        if is_pair(*level, *inner) {
+        if has_short_runs(*level, *inner) {
             take_pair(fold, *level, *inner, places, input, out);
             return;
         }
