@@ -11,10 +11,10 @@ use Rattle.cu_num.specs.declared.layout.Endian.TheVariants.{Little}
 use Rattle.cu_num.specs.declared.folds.FoldKind.{FoldKind}
 use Rattle.cu_reduce.proofs.Ranges.{range_append, map-append}
 use Rattle.cu_reduce.proofs.Regions.{append_none}
-use Rattle.cu_take.specs.Taken.{HasTaken, IsOutside, elements_at_places}
+use Rattle.cu_take.specs.Taken.{HasTaken, elements_at_places}
 use Rattle.cu_take.proofs.Taking.{takes_more}
 use Rattle.cu_reduce.specs.Labels.{is_label, members}
-use Rattle.cu_group.specs.Regions.{row_sources}
+use Rattle.cu_group.specs.Regions.{row_sources, IsOutside}
 
 -- ---- one row more
 

@@ -4,8 +4,8 @@ ghost use Rattle.cu_num.specs.Dtype.{size_of};
 ghost use Rattle.cu_num.specs.Element.{bytes_at};
 ghost use Rattle.cu_reduce.specs.Kinds.{Accumulates};
 ghost use Rattle.cu_reduce.specs.Labels.{is_label};
-ghost use Rattle.cu_take.specs.Taken.{HasTaken, IsOutside, elements_at_places};
-ghost use Rattle.cu_group.specs.Regions.{label_in, row_sources};
+ghost use Rattle.cu_take.specs.Taken.{HasTaken, elements_at_places};
+ghost use Rattle.cu_group.specs.Regions.{IsOutside, label_in, row_sources};
 
 use cu_num::{Dtype, FoldKind, load};
 use cu_take::take_one;

@@ -1,4 +1,3 @@
 pub mod Buffers
-pub mod RowSteps
 pub mod Taking
 pub mod Truths

@@ -1,6 +1,7 @@
 use Rattle.std.proofs.Common.{◌≡◌, ◌+◌, ◌<◌, ℕ, [], ◌∷◌, length}
 use Rattle.cu_num.specs.Element.{bytes_at}
-use Rattle.cu_take.specs.Taken.{HasTaken, IsOutside, elements_at_places}
+use Rattle.cu_take.specs.Taken.{HasTaken, elements_at_places}
+use Rattle.cu_group.specs.Regions.{IsOutside}
 use Rattle.cu_group.proofs.rows.take_row.Given as goal
 
 abbrev pub invariant-loop-j : goal.invariant-loop-j

@@ -1,7 +1,7 @@
 use Rattle.std.proofs.Common.{◌≡◌, ◌+◌, ◌*◌, ◌<◌, ℕ, length}
 use Rattle.cu_num.specs.Element.{bytes_at}
-use Rattle.cu_take.specs.Taken.{HasTaken, IsOutside, elements_at_places}
-use Rattle.cu_group.specs.Regions.{label_in, row_sources}
+use Rattle.cu_take.specs.Taken.{HasTaken, elements_at_places}
+use Rattle.cu_group.specs.Regions.{IsOutside, label_in, row_sources}
 use Rattle.cu_group.proofs.rows.take_rows.Given as goal
 
 abbrev pub invariant-loop-k : goal.invariant-loop-k
