@@ -6,12 +6,12 @@ their times, and last which of the aims were missed.
   along.py [--keep FOLDER] [--runs N] [--only WORD] [--cpu NAME..] [--program FILE..] [--processor N]
 
 A region has three axes: the one in the middle is summed along, or has the labels, so one element behind it makes it the last axis, and one
-before it the first. The bytes follow one another without order, and the labels, int32, go from 0 to below the groups. Each process takes
-the least time of its samples, the two in turn, and of each case the median of the runs' ratios counts. The results must have the same
-checksum. `bincount` adds floats, and of one line alone, so its time stands beside `add.at` where it has a value. The loop goes over the
-places of the axis, and adds what stands at each to what its label has so far (or takes the lesser of both): all that is before and behind
-the axis in one call, so it is left out where that is one element. Both processes run on one processor, with a real-time priority where
-`chrt` may give one.
+before it the first. The bytes follow one another without order. The labels, int32, go from 0 to below the groups, without order or, as
+those of days by months, in order. Each process takes the least time of its samples, the two in turn, and of each case the median of the
+runs' ratios counts. The results must have the same checksum. `bincount` adds floats, and of one line alone, so its time stands beside
+`add.at` where it has a value. The loop goes over the places of the axis, and adds what stands at each to what its label has so far (or
+takes the lesser of both): all that is before and behind the axis in one call, so it is left out where that is one element. Both processes
+run on one processor, with a real-time priority where `chrt` may give one.
 
 The program that makes the calls is written into a copy of the crates that it needs, and `rt run` proves and builds it there for each
 processor that is named (x86-64-v2, x86-64-v3), which takes some minutes. With --keep it is kept in that folder, by the sum of its
@@ -35,8 +35,8 @@ CASES += [f"{what} {t} {sizes} 64 5 1" for what in ("sum", "min") for t in ("int
           for sizes in ("1 2048 1024", "64 256 128", "512 512 8", "2048 1024 1", "1 2097152 1")]
 # As many groups as there may be.
 CASES += [f"sum {t} 1 4194304 1 65536 5 1" for t in ("int32", "int16")]
-# A chunk of days and its twelve months.
-CASES += [f"{what} int16 1 365 16200 12 5 1" for what in ("sum", "min")]
+# A chunk of days and its twelve months, and the same days in another order.
+CASES += [f"{what} int16 1 365 16200 12 5 1" for what in ("sum-in-order", "min-in-order", "sum", "min")]
 
 # The program: its words are those of a case.
 SOURCE = """\
@@ -65,6 +65,7 @@ struct Case {
     count: u64,
     inner: u64,
     groups: u32,
+    is_ordered: bool,
 }
 
 fn scan(case: Case, dims: &Dims, input: &[u8], out: &mut [u8])
@@ -159,16 +160,29 @@ fn call(case: Case, input: &[u8], labels: &[u8], out: &mut [u8]) -> bool
 
 """ + FILL + """\
 
+/// The label of a place: in order or without one.
+fn label_of(case: Case, place: u32, x: u32) -> u32 {
+    if case.groups == 0 {
+        return 0;
+    }
+    if case.is_ordered {
+        let part = u64::from(place) * u64::from(case.groups) / case.count.max(1);
+        return (part % 65536) as u32;
+    }
+    (x >> 8) % case.groups
+}
+
 /// Labels of four bytes, from 0 to below the groups.
-fn fill_labels(bytes: &mut [u8], groups: u32) {
+fn fill_labels(bytes: &mut [u8], case: Case) {
+    let mut place = 0u32;
     let mut x = 0u32;
     for element in bytes.chunks_mut(4) {
         x = x.wrapping_add(2654435761);
-        let label = if groups == 0 { 0 } else { (x >> 8) % groups };
-        let word = label.to_le_bytes();
-        for (place, byte) in element.iter_mut().enumerate() {
-            if place < 4 {
-                *byte = word[place];
+        let word = label_of(case, place, x).to_le_bytes();
+        place = place.wrapping_add(1);
+        for (at, byte) in element.iter_mut().enumerate() {
+            if at < 4 {
+                *byte = word[at];
             }
         }
     }
@@ -214,7 +228,7 @@ fn timed(rt: &HostRuntime, case: Case, samples: u32, rounds: u32) -> io::Result<
     let mut input = zeros(rt.alloc(), room.input as usize)?;
     fill(&mut input);
     let mut labels = zeros(rt.alloc(), room.labels as usize)?;
-    fill_labels(&mut labels, case.groups);
+    fill_labels(&mut labels, case);
     let mut out = zeros(rt.alloc(), room.out as usize)?;
     let mut best = u128::MAX;
     let mut ok = true;
@@ -244,7 +258,8 @@ fn main(rt: HostRuntime) -> io::Result<()> {
     let groups = number(words.next()).min(65536) as u32;
     let samples = number(words.next()).min(1000) as u32;
     let rounds = number(words.next()).min(1000000) as u32;
-    if what.as_str() == "min" {
+    let is_ordered = what.as_str() == "sum-in-order" || what.as_str() == "min-in-order";
+    if what.as_str() == "min" || what.as_str() == "min-in-order" {
         let case = Case {
             kind: FoldKind::Min,
             t,
@@ -253,6 +268,7 @@ fn main(rt: HostRuntime) -> io::Result<()> {
             count,
             inner,
             groups,
+            is_ordered,
         };
         return timed(&rt, case, samples, rounds);
     }
@@ -264,6 +280,7 @@ fn main(rt: HostRuntime) -> io::Result<()> {
         count,
         inner,
         groups: if what.as_str() == "scan" { 0 } else { groups },
+        is_ordered,
     };
     timed(&rt, case, samples, rounds)
 }
@@ -279,6 +296,8 @@ def region_of(words):
     region = filled(words[1], sizes[0] * sizes[1] * sizes[2]).reshape(sizes)
     place = numpy.arange(1, sizes[1] + 1, dtype=numpy.uint64)
     labels = ((place * 2654435761 & 0xFFFFFFFF) >> 8) % max(groups, 1)
+    if words[0].endswith("in-order"):
+        labels = (place - 1) * groups // sizes[1]
     return region, labels.astype(numpy.int32), numpy.dtype("uint64" if words[1].startswith("u") else "int64")
 
 
@@ -291,7 +310,7 @@ def ways_of(words):
         out = numpy.empty(region.shape, wide)
         return {"cumsum": lambda: numpy.cumsum(region, axis=1, dtype=wide, out=out)}
     shape, rows = (region.shape[0], groups, region.shape[2]), numpy.moveaxis(region, 1, 0)
-    is_least = words[0] == "min"
+    is_least = words[0].startswith("min")
     join, kind, start = (numpy.minimum, region.dtype, numpy.iinfo(region.dtype).max) if is_least else (numpy.add, wide, 0)
 
     def by_at():
