@@ -1,6 +1,8 @@
 pub mod Chains
+pub mod Cut
 pub mod Groups
 pub mod Merged
+pub mod NarrowSums
 pub mod Nonzero
 pub mod PartTaken
 pub mod ResultPlaces
@@ -8,3 +10,4 @@ pub mod Runs
 pub mod SetElements
 pub mod StripsTaken
 pub mod Totals
+pub mod Wholes

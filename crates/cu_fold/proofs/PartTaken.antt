@@ -222,7 +222,7 @@ index_reached x i inner h =
     let far : i * inner ≤ x / inner * inner = mul-le-mul_right inner h in
     omega (arith, far, div-add-mod' x inner)
 
-index_below : (i n inner : ℕ) → i * inner < n * inner → i < n
+pub index_below : (i n inner : ℕ) → i * inner < n * inner → i < n
 index_below i n inner h =
     ⊎_elim (λ (less : i < n). less) (λ (least : n ≤ i). let far : n * inner ≤ i * inner = mul-le-mul_right inner least in absurd (omega (arith, far))) (cases_lt i n)
 

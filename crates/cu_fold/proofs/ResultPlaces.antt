@@ -45,7 +45,7 @@ filter_all f a (suc n) h =
 
 -- ---- tests
 
-same_behind : (a x k q : ℕ) → q ≡ a + k → (a + x == q) ≡ (x == k)
+pub same_behind : (a x k q : ℕ) → q ≡ a + k → (a + x == q) ≡ (x == k)
 same_behind a x k q e = grind (arith, nat_tests)
 
 pub not_same : (x q : ℕ) → x ≢ q → (x == q) ≡ false
@@ -53,7 +53,7 @@ not_same x q h = grind (arith, nat_tests)
 
 -- ---- the result of a place
 
-placed : (l : Level) (ls : List Level) (i o : ℕ) → o < extent ls → result_of (l ∷ ls) (i * extent ls + o) ≡ i * result_step l ls + result_of ls o
+pub placed : (l : Level) (ls : List Level) (i o : ℕ) → o < extent ls → result_of (l ∷ ls) (i * extent ls + o) ≡ i * result_step l ls + result_of ls o
 placed l ls i o less = λ j. div-mul-add i (extent ls) o less j * result_step l ls + result_of ls (mod-mul-add i (extent ls) o less j)
 
 front_below : (n : ℕ) (b : Test) (ls : List Level) (p : ℕ) → ((o : ℕ) → o < extent ls → result_of ls o < results ls) → p < n * extent ls

@@ -1,7 +1,9 @@
 -- The axes of a region as levels, each with its size and whether it is reduced, and the places of the elements that each result is made of.
-use Rattle.std.specs.Prelude.{◌≡◌, ℕ, zero, suc, ◌+◌, ◌*◌, ◌/◌, ◌%◌, ◌<◌, ◌==◌, Bool, List, [], ◌∷◌, ◌++◌, map, if◌then◌else◌}
+use Rattle.std.specs.Prelude.{◌≡◌, ℕ, zero, suc, ◌+◌, ◌*◌, ◌/◌, ◌%◌, ◌<◌, ◌==◌, Bool, true, false, List, [], ◌∷◌, ◌++◌, map, if◌then◌else◌}
 use Rattle.std.specs.List.{range_with_len, filter}
 use Rattle.cu_fold.specs.declared.levels.Level.{Level}
+use Rattle.cu_fold.specs.declared.levels.Leaf.{Leaf}
+use Rattle.cu_fold.specs.declared.levels.Leaf.TheVariants.{Run, Row, Runs, Rows}
 
 -- how many elements there are, and how many results
 abbrev pub extent : List Level → ℕ
@@ -45,6 +47,13 @@ places_in levels q start n = filter (λ p. result_of levels p == q) (range_with_
 abbrev pub levels_from : (ℕ → Bool) → ℕ → List ℕ → List Level
 levels_from is_reduced first [] = []
 levels_from is_reduced first (n ∷ ns) = record { size = n; is_reduced = is_reduced first } ∷ levels_from is_reduced (first + 1) ns
+
+-- the levels that one loop takes
+abbrev pub leaf_levels : Leaf → List Level
+leaf_levels (Run n) = record { size = n; is_reduced = true } ∷ []
+leaf_levels (Row n) = record { size = n; is_reduced = false } ∷ []
+leaf_levels (Runs n r) = record { size = n; is_reduced = false } ∷ record { size = r; is_reduced = true } ∷ []
+leaf_levels (Rows n w) = record { size = n; is_reduced = true } ∷ record { size = w; is_reduced = false } ∷ []
 
 -- the same elements go into the same results
 pub record IsAlike (xs ys : List Level) : Type 0 where

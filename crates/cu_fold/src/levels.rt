@@ -15,6 +15,19 @@ pub(crate) struct Level {
     pub(crate) is_reduced: bool,
 }
 
+/// The last level of a region, or its last two, whose elements one loop takes.
+#[derive(Clone, Copy)]
+pub(crate) enum Leaf {
+    /// So many elements of one result.
+    Run(usize),
+    /// So many elements, each of a result of its own.
+    Row(usize),
+    /// So many runs of so many elements, each of a result of its own.
+    Runs(usize, usize),
+    /// So many rows of so many elements, all into one row of results.
+    Rows(usize, usize),
+}
+
 /// At most six levels: the first `count` of a list.
 #[derive(Clone, Copy)]
 pub(crate) struct Levels {

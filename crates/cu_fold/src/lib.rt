@@ -1,6 +1,7 @@
 //! Reductions of regions of little-endian elements, and of partial results of reductions.
 #![tactic(auto)]
 
+mod by_type;
 mod last;
 mod laws;
 mod leaves;

@@ -1,7 +1,7 @@
 -- Rows of the groups in a buffer, and what each element of them is made of.
-use Rattle.std.proofs.Common.{◌≡◌, ℕ, suc, ◌+◌, ◌*◌, ◌<◌, ◌≤◌, ℤ, true, false, List, [], ◌∷◌, ◌++◌, map, cond, ◌⊎◌, inl, inr, refl, sym, ap, ◌∙◌, subst, arith, ⊎_elim, mul-le-mul_right, mul-le-mul_left}
+use Rattle.std.proofs.Common.{◌≡◌, ℕ, zero, suc, ◌+◌, ◌*◌, ◌<◌, ◌≤◌, ℤ, true, false, List, [], ◌∷◌, ◌++◌, map, cond, ◌⊎◌, inl, inr, refl, sym, ap, ◌∙◌, subst, arith, ⊎_elim, mul-le-mul_right, mul-le-mul_left}
 use Rattle.std.specs.Prelude.{◌==◌, Bool as Test}
-use Rattle.std.specs.List.{range_with_len}
+use Rattle.std.specs.List.{range_with_len, filter}
 use Rattle.std.proofs.lemmas.Bool.{cases_lt}
 use Rattle.std.proofs.lemmas.Bool.Decides.{nat_tests}
 use Rattle.std.proofs.lemmas.List.Elements.{filter-append}
@@ -9,68 +9,96 @@ use Rattle.cu_num.specs.Element.{element_at, bytes_at}
 use Rattle.cu_num.specs.declared.types.Dtype.{Dtype}
 use Rattle.cu_num.specs.declared.layout.Endian.TheVariants.{Little}
 use Rattle.cu_num.specs.declared.folds.FoldKind.{FoldKind}
-use Rattle.cu_reduce.proofs.Ranges.{range_append, map-append}
+use Rattle.cu_reduce.proofs.Ranges.{range_append, map_ranges, map-append}
 use Rattle.cu_reduce.proofs.Regions.{append_none}
-use Rattle.cu_take.specs.Taken.{HasTaken, elements_at_places}
+use Rattle.cu_take.specs.Taken.{HasTaken, IsOutside, elements_at_places, column}
 use Rattle.cu_take.proofs.Taking.{takes_more}
 use Rattle.cu_reduce.specs.Labels.{is_label, members}
-use Rattle.cu_group.specs.Regions.{row_sources, IsOutside}
+use Rattle.cu_group.specs.Regions.{row_sources}
 
--- ---- one row more
+-- ---- a run of rows more
 
-if_own : (b : Test) (f : ℕ → ℕ) (k : ℕ) (own : Test) → b ≡ own
-    → map f (cond b (k ∷ []) []) ≡ cond own (f k ∷ []) []
-if_own true f k true e = refl
-if_own true f k false e = cc
-if_own false f k true e = cc
-if_own false f k false e = refl
+-- of places that all pass a test, or none
+filter_run : (p : ℕ → Test) (own : Test) (a n : ℕ) → ((i : ℕ) → a ≤ i → i < a + n → p i ≡ own)
+    → filter p (range_with_len a n) ≡ cond own (range_with_len a n) []
+filter_run p true a zero h = refl
+filter_run p false a zero h = refl
+filter_run p true a (suc n) h =
+    (λ i. cond (h a (omega arith) (omega arith) i) (a ∷ filter_run p true (a + 1) n (λ k l b. h k
+    (omega arith) (omega arith)) i) (filter p (range_with_len (a + 1) n)))
+filter_run p false a (suc n) h =
+    (λ i. cond (h a (omega arith) (omega arith) i) (a ∷ filter p (range_with_len (a + 1) n))
+    (filter_run p false (a + 1) n (λ k l b. h k (omega arith) (omega arith)) i))
 
-pub sources_more : (label : ℕ → ℤ) (inner first count q j : ℕ) (own : Test)
-    → is_label q (label count) ≡ own
-    → row_sources label inner first (count + 1) q j
-    ≡ row_sources label inner first count q j ++ cond own
-    (((first + count) * inner + j) ∷ []) []
-sources_more label inner first count q j own e =
-    let f : ℕ → ℕ = λ k. (first + k) * inner + j in
-    let p : ℕ → Test = λ k. is_label q (label k) in
-    let s : 0 + count ≡ count = omega arith in
-    ap (λ ks. map f (members label q ks)) (sym (range_append 0 count 1))
-    ∙ ap (map f) (filter-append p (range_with_len 0 count) (range_with_len (0 + count) 1))
-    ∙ map-append f (members label q (range_with_len 0 count)) (members label q (range_with_len
-    (0 + count) 1))
-    ∙ ap (λ ks. row_sources label inner first count q j ++ ks) (ap (λ k. map f (cond (p k)
-    (k ∷ []) [])) s ∙ if_own (p count) f count own e)
+-- whether rows from k on have a label
+HasRun : (ℕ → ℤ) → ℕ → Test → ℕ → ℕ → Type 0
+HasRun label q own k end = (i : ℕ) → k ≤ i → i < end → is_label q (label i) ≡ own
 
--- the elements of the row that is taken
-pub takes_row : (kind : FoldKind) (from acc : Dtype) (input old mid new : List ℕ) (label : ℕ
-    → ℤ) (inner first count q j at : ℕ) → is_label q (label count) ≡ true
+sources_more : (label : ℕ → ℤ) (inner first k n q j : ℕ) (own : Test)
+    → HasRun label q own k (k + n)
+    → row_sources label inner first (k + n) q j
+    ≡ row_sources label inner first k q j ++ map (λ i. (first + i) * inner + j)
+    (cond own (range_with_len k n) [])
+unfolding HasRun
+sources_more label inner first k n q j own h =
+    let f : ℕ → ℕ = λ i. (first + i) * inner + j in
+    let p : ℕ → Test = λ i. is_label q (label i) in
+    let s : 0 + k ≡ k = omega arith in
+    ap (λ ks. map f (members label q ks)) (sym (range_append 0 k n))
+    ∙ ap (map f) (filter-append p (range_with_len 0 k) (range_with_len (0 + k) n))
+    ∙ map-append f (members label q (range_with_len 0 k)) (members label q (range_with_len
+    (0 + k) n))
+    ∙ ap (λ ks. row_sources label inner first k q j ++ map f ks)
+    (ap (λ a. filter p (range_with_len a n)) s ∙ filter_run p own k n h)
+
+run_column : (inner first k n j : ℕ)
+    → map (λ i. (first + i) * inner + j) (range_with_len k n)
+    ≡ column ((first + k) * inner) inner n j
+run_column inner first k n j =
+    map_ranges (λ i. (first + i) * inner + j) (λ i. (first + k) * inner + i * inner + j) k 0 n
+    (λ i b. let e : (first + (k + i)) * inner + j
+    ≡ (first + k) * inner + (0 + i) * inner + j = omega arith in e)
+
+-- the elements of rows that are taken
+pub takes_run : (kind : FoldKind) (from acc : Dtype) (input old mid new : List ℕ) (label : ℕ
+    → ℤ) (inner first k n end q j at : ℕ) → k + n ≡ end
+    → ((i : ℕ) → k ≤ i → i < end → is_label q (label i) ≡ true)
     → HasTaken kind acc old mid at (elements_at_places from input
-    (row_sources label inner first count q j))
+    (row_sources label inner first k q j))
     → HasTaken kind acc mid new at (elements_at_places from input
-    (((first + count) * inner + j) ∷ []))
-    → HasTaken kind acc old new at (elements_at_places from input (row_sources label inner first
-    (count + 1) q j))
-takes_row kind from acc input old mid new label inner first count q j at e h g =
+    (column ((first + k) * inner) inner n j))
+    → HasTaken kind acc old new at (elements_at_places from input
+    (row_sources label inner first end q j))
+unfolding HasRun
+takes_run kind from acc input old mid new label inner first k n end q j at e same h g =
     let f : ℕ → ℤ = λ p. element_at Little from input p in
-    let own = row_sources label inner first count q j in
-    subst (HasTaken kind acc old new at)
-    (sym (ap (map f) (sources_more label inner first count q j true e)
-    ∙ map-append f own (((first + count) * inner + j) ∷ [])))
+    let own = row_sources label inner first k q j in
+    let more = column ((first + k) * inner) inner n j in
+    let run : HasRun label q true k (k + n) = λ i l b. same i l (omega arith) in
+    let all : row_sources label inner first end q j ≡ own ++ more =
+    ap (λ m. row_sources label inner first m q j) (sym e)
+    ∙ sources_more label inner first k n q j true run
+    ∙ ap (λ ps. own ++ ps) (run_column inner first k n j) in
+    subst (HasTaken kind acc old new at) (sym (ap (map f) all ∙ map-append f own more))
     (takes_more kind acc old mid new at (elements_at_places from input own)
-    (elements_at_places from input (((first + count) * inner + j) ∷ [])) h g)
+    (elements_at_places from input more) h g)
 
 -- the elements of a row that stays
-pub takes_no_row : (kind : FoldKind) (from acc : Dtype) (input old mid new : List ℕ) (label : ℕ
-    → ℤ) (inner first count q j at : ℕ) → is_label q (label count) ≡ false
+pub takes_no_run : (kind : FoldKind) (from acc : Dtype) (input old mid new : List ℕ) (label : ℕ
+    → ℤ) (inner first k n end q j at : ℕ) → k + n ≡ end
+    → ((i : ℕ) → k ≤ i → i < end → is_label q (label i) ≡ false)
     → HasTaken kind acc old mid at (elements_at_places from input
-    (row_sources label inner first count q j))
+    (row_sources label inner first k q j))
     → bytes_at acc new at ≡ bytes_at acc mid at
-    → HasTaken kind acc old new at (elements_at_places from input (row_sources label inner first
-    (count + 1) q j))
-takes_no_row kind from acc input old mid new label inner first count q j at e h g =
-    let own = row_sources label inner first count q j in
-    let same : row_sources label inner first (count + 1) q j
-    ≡ own = sources_more label inner first count q j false e ∙ append_none own in
+    → HasTaken kind acc old new at (elements_at_places from input
+    (row_sources label inner first end q j))
+unfolding HasRun
+takes_no_run kind from acc input old mid new label inner first k n end q j at e other h g =
+    let own = row_sources label inner first k q j in
+    let run : HasRun label q false k (k + n) = λ i l b. other i l (omega arith) in
+    let same : row_sources label inner first end q j ≡ own =
+    ap (λ m. row_sources label inner first m q j) (sym e)
+    ∙ sources_more label inner first k n q j false run ∙ append_none own in
     subst (λ ps. HasTaken kind acc old new at (elements_at_places from input ps)) (sym same)
     (record { number = λ x f has. g ∙ h.number x f has })
 
@@ -135,6 +163,17 @@ row_bounds base groups row inner size long h g s b =
     let bytes : end * 1 ≤ end * size = mul-le-mul_left end s in
     let rows : (base + row) * 1 ≤ (base + row) * inner = mul-le-mul_left (base + row) g in
     (omega (arith, all, bytes, rows), omega (arith, all, bytes), omega (arith, all))
+
+-- the elements of a run of rows
+pub run_bounds : (first count k n inner size long : ℕ) → k + n ≤ count
+    → (first + count) * inner * size ≤ long → ((first + k) * inner + n * inner) * size ≤ long
+run_bounds first count k n inner size long h b =
+    let e : (first + k) * inner + n * inner ≡ (first + (k + n)) * inner = omega arith in
+    let m : (first + (k + n)) * inner
+    ≤ (first + count) * inner = mul-le-mul_right inner (omega arith) in
+    let all : ((first + k) * inner + n * inner) * size
+    ≤ (first + count) * inner * size = mul-le-mul_right size (omega (arith, e, m)) in
+    omega (arith, all, b)
 
 -- ---- blocks
 

@@ -1,5 +1,5 @@
 -- Grouped results in a buffer of rows of little-endian elements.
-use Rattle.std.specs.Prelude.{ℕ, ◌+◌, ◌*◌, ◌<◌, ◌≤◌, ◌⊎◌, ℤ, List, map}
+use Rattle.std.specs.Prelude.{ℕ, ◌+◌, ◌*◌, ◌<◌, ℤ, List, map}
 use Rattle.std.specs.List.{range_with_len}
 use Rattle.cu_num.specs.Element.{element_at}
 use Rattle.cu_num.specs.declared.types.Dtype.{Dtype}
@@ -27,7 +27,3 @@ HasGroups kind acc sizes label element out =
     → HasNumber acc out ((o * sizes.groups + q) * sizes.inner + j)
     (group_fold kind acc (map element (row_sources label sizes.inner
     (o * sizes.count) sizes.count q j)))
-
--- a place in front of so many, or behind them
-abbrev pub IsOutside : ℕ → ℕ → ℕ → Type 0
-IsOutside first end p = (p < first) ⊎ (end ≤ p)

@@ -7,7 +7,7 @@ ghost use Rattle.cu_reduce.specs.Kinds.{Accumulates};
 ghost use Rattle.cu_take.specs.Taken.{HasTaken, elements_at_places};
 ghost use Rattle.cu_group.specs.Regions.{label_in, row_sources, HasGroups};
 
-use crate::rows::{Sizes, take_rows};
+use crate::rows::{Sizes, take_block};
 use cu_num::{Dtype, FoldKind};
 use cu_take::fill;
 
@@ -34,7 +34,7 @@ fn take_blocks(
         (o * sizes.count) sizes.count q j)) }
 {
     for o in 0..sizes.outer {
-        take_rows(
+        take_block(
             kind,
             from,
             acc,

@@ -2,6 +2,7 @@
 #![tactic(auto)]
 
 mod blocks;
+mod by_type;
 mod laws;
 mod regions;
 mod rows;

@@ -1,3 +1,4 @@
 pub mod Buffers
+pub mod RowSteps
 pub mod Taking
 pub mod Truths

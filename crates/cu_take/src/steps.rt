@@ -27,7 +27,7 @@ fn both(x: i128, y: i128) -> i128
 
 /// What a reduction of elements of type `from` makes of two of its results, without branches.
 #[inline(always)]
-fn joined(kind: FoldKind, from: Dtype, acc: Dtype, x: i128, y: i128) -> i128
+pub(crate) fn joined(kind: FoldKind, from: Dtype, acc: Dtype, x: i128, y: i128) -> i128
     requires types { Accumulates kind from acc }
     requires first { InRange acc x }
     requires second { InRange acc y }

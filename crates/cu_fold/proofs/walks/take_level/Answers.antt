@@ -4,7 +4,7 @@ use Rattle.std.proofs.lemmas.List.Edits.{length-between}
 use borrow.Rule.Slice.PartMut.{put_mid}
 use Rattle.cu_num.specs.Dtype.{size_of}
 use Rattle.cu_fold.specs.declared.levels.Level.{Level}
-use Rattle.cu_fold.specs.Taken.{TakesAll, TakesPart}
+use Rattle.cu_fold.specs.Taken.{TakesPart}
 use Rattle.cu_fold.proofs.PartTaken.{reduced_part, kept_part, old_inside, new_inside, new_outside}
 use Rattle.cu_fold.proofs.walks.take_level.Goals as goal
 
@@ -16,9 +16,8 @@ returns-then-level c =
     let old = c.args.out.now in
     let new = c.take_last.new.out in
     let level : Test → Level = λ b. record { size = c.args.level.size; is_reduced = b } in
-    let part : Test → Level = λ b. record { size = places.count; is_reduced = b } in
     subst (λ b. TakesPart fold (level b ∷ []) places input old new) (sym c.if-level.true)
-    (reduced_part fold c.args.level.size places input old new (subst (λ b. TakesAll fold (part b ∷ []) input old new) c.if-level.true c.take_last.ensures))
+    (reduced_part fold c.args.level.size places input old new c.take_last.ensures)
 
 pub returns-else-level : goal.returns-else-level
 returns-else-level c =
@@ -33,7 +32,6 @@ returns-else-level c =
     let new_part = c.take_last-else-level.new.out in
     let new = put_mid a m old new_part in
     let level : Test → Level = λ b. record { size = c.args.level.size; is_reduced = b } in
-    let part : Test → Level = λ b. record { size = places.count; is_reduced = b } in
     let from : a ≡ places.start * s = ap (λ k. places.start * k) c.size-size.ensures in
     let wide : places.count * c.size-size.result ≡ places.count * s = ap (λ k. places.count * k) c.size-size.ensures in
     let long : m ≡ places.count * s = omega (arith, wide) in
@@ -45,4 +43,4 @@ returns-else-level c =
     (kept_part fold c.args.level.size places input old new old_part new_part
     (λ q k e less. (old_inside fold.acc old places.start places.count a m q k from long e less, new_inside fold.acc old new_part places.start places.count a m q k from long own fits e less))
     (λ q other. new_outside fold.acc old new_part places.start places.count a m q from long own fits other)
-    (subst (λ b. TakesAll fold (part b ∷ []) input old_part new_part) c.if-level.false c.take_last-else-level.ensures))
+    c.take_last-else-level.ensures)

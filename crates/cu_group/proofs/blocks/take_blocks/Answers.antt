@@ -22,15 +22,15 @@ overflow_mul-o-in-loop-o c =
     (size_positive c.args.acc) c.requires.out in
     omega (arith, b.0)
 
-pub take_rows-requires-clause-input : goal.take_rows-requires-clause-input
-take_rows-requires-clause-input c =
+pub take_block-requires-clause-input : goal.take_block-requires-clause-input
+take_block-requires-clause-input c =
     let b = block_bounds c.args.sizes.outer c.args.sizes.count c.loop-o.o c.args.sizes.inner
     (size_of c.args.from) (length c.args.input.now) c.loop-o-test.true c.requires.inner
     (size_positive c.args.from) c.requires.input in
     b.1
 
-pub take_rows-requires-clause-out : goal.take_rows-requires-clause-out
-take_rows-requires-clause-out c =
+pub take_block-requires-clause-out : goal.take_block-requires-clause-out
+take_block-requires-clause-out c =
     let b = block_bounds c.args.sizes.outer c.args.sizes.groups c.loop-o.o c.args.sizes.inner
     (size_of c.args.acc) (length c.loop-o.out) c.loop-o-test.true c.requires.inner
     (size_positive c.args.acc) (let same = c.loop-o.invariant.same_length in let all = c.requires.out in omega (arith, same, all)) in
@@ -44,19 +44,19 @@ loop-o-preserved c =
     let input = c.args.input.now in
     let old = c.args.out.now in
     let mid = c.loop-o.out in
-    let new = c.take_rows.new.out in
+    let new = c.take_block.new.out in
     let o = c.loop-o.o in
     let inner = c.args.sizes.inner in
     let groups = c.args.sizes.groups in
     let count = c.args.sizes.count in
     let label = label_in c.args.label_t c.args.labels.now in
     record {
-      same_length = c.take_rows.auto.out ∙ c.loop-o.invariant.same_length;
+      same_length = c.take_block.auto.out ∙ c.loop-o.invariant.same_length;
       done = λ i q j h b l. ⊎_elim
           (λ less.
           takes_kept kind acc old mid new ((i * groups + q) * inner + j)
           (elements_at_places from input (row_sources label inner (i * count) count q j))
-          (c.take_rows.ensures.others ((i * groups + q) * inner + j) (inl
+          (c.take_block.ensures.others ((i * groups + q) * inner + j) (inl
           (earlier_block o i groups q inner j less b l))) (c.loop-o.invariant.done i q j less b l))
           (λ past.
           let same : o ≡ i = omega arith in
@@ -66,13 +66,13 @@ loop-o-preserved c =
           (takes_same kind acc old new mid new at at (elements_at_places from input
           (row_sources label inner (o * count) count q j))
           (sym (c.loop-o.invariant.left at (let low = row_after (o * groups) q inner in omega
-          (arith, low)))) refl (c.take_rows.ensures.takes q j b l)))
+          (arith, low)))) refl (c.take_block.ensures.takes q j b l)))
           (cases_lt i o);
       left = λ p h.
           let e : (o + 1) * groups * inner
           ≡ (o * groups + groups) * inner = ap (λ k. k * inner) (let t : (o + 1) * groups
           ≡ o * groups + groups = omega arith in t) in
           let low = block_after o groups inner in
-          c.take_rows.ensures.others p (inr (omega (arith, e, h)))
+          c.take_block.ensures.others p (inr (omega (arith, e, h)))
           ∙ c.loop-o.invariant.left p (omega (arith, e, h, low));
     }
