@@ -1,4 +1,4 @@
--- A tile that is copied by way of two small buffers, between which its elements change places.
+-- A tile that is copied by way of a small buffer, into which rows of the source come and from which rows of the target go.
 use Rattle.std.proofs.Common.{◌≡◌, ℕ, ◌+◌, ◌-◌, ◌*◌, ◌/◌, ◌%◌, ◌<◌, ◌≤◌, List, [], ◌∷◌, length, sym, ap, ◌∙◌, subst, arith}
 use Rattle.std.proofs.Math.Nat.{mul-le-mul_right}
 use Rattle.std.proofs.lemmas.Nat.{div-mul-add, mod-mul-add, mul-add-lt}
@@ -28,17 +28,14 @@ tile_first side i j k l b d e = sym (div-mul-add i side j b) ∙ ap (λ n. n / s
 tile_second : (side i j k l : ℕ) → j < side → l < side → i * side + j ≡ k * side + l → j ≡ l
 tile_second side i j k l b d e = sym (mod-mul-add i side j b) ∙ ap (λ n. n % side) e ∙ mod-mul-add k side l d
 
--- a place of a tile lies in its buffer
-tile_room : (side size room i j : ℕ) → i < side → j < side → side * side * size ≤ room → (i * side + j) * size + size ≤ room
-tile_room side size room i j b d fits =
-    let low : i * side + j < side * side = mul-add-lt i side j side b d in
-    let far : (i * side + j + 1) * size ≤ side * side * size = mul-le-mul_right size (let l : i * side + j + 1 ≤ side * side = omega (arith, low) in l) in
+-- a place of a tile of `rows` rows lies in its buffer
+tile_room : (side rows size room i j : ℕ) → i < rows → j < side → rows * size * side ≤ room → (i * side + j) * size + size ≤ room
+tile_room side rows size room i j b d fits =
+    let low : i * side + j < side * rows = mul-add-lt i side j rows b d in
+    let far : (i * side + j + 1) * size ≤ side * rows * size = mul-le-mul_right size (let l : i * side + j + 1 ≤ side * rows = omega (arith, low) in l) in
     let more : (i * side + j + 1) * size ≡ (i * side + j) * size + size = omega arith in
-    omega (arith, far, more, fits)
-
--- places over two axes
-two_up : (first x y i j n m : ℕ) → x ≡ i * n + j * m → y ≡ 0 → first + x - y ≡ first + (i * n + j * m)
-two_up first x y i j n m e f = omega (arith, e, f)
+    let turned : side * rows * size ≡ rows * size * side = omega arith in
+    omega (arith, far, more, turned, fits)
 
 -- what holds of each index of two axes
 on_two : (n m : ℕ) (P : List ℕ → Type 0) → ((i j : ℕ) → i < n → j < m → P (i ∷ j ∷ [])) → (idx : List ℕ) → IsInside (n ∷ m ∷ []) idx → P idx
@@ -48,19 +45,16 @@ on_two n m P f (i ∷ j ∷ []) h = f i j h.0 h.1.0
 on_two n m P f (i ∷ j ∷ k ∷ ks) h = absurd h.1.1
 
 module _ (size : ℕ) (p q : Axis) (start : Start) (source : List ℕ) (target side room : ℕ) (can : CanCopy size (p ∷ q ∷ []) start source target)
-    (few_p : p.count ≤ side) (few_q : q.count ≤ side) (fits : side * side * size ≤ room) where
+    (few_p : p.count ≤ side) (fits : q.count * size * side ≤ room) where
   abbrev whole : List Axis
   whole = p ∷ q ∷ []
 
-  -- rows of the source into the first buffer, from there into the second one, and rows of that into the target
+  -- rows of the source into the buffer, and from there rows of the target
   abbrev pub axes_in : List Axis
   axes_in = axis_of q.count q.from (Up side) ∷ axis_of p.count p.from (Up 1) ∷ []
 
-  abbrev pub axes_turned : List Axis
-  axes_turned = axis_of p.count (Up 1) (Up side) ∷ axis_of q.count (Up side) (Up 1) ∷ []
-
   abbrev pub axes_out : List Axis
-  axes_out = axis_of p.count (Up side) p.to ∷ axis_of q.count (Up 1) q.to ∷ []
+  axes_out = axis_of p.count (Up 1) p.to ∷ axis_of q.count (Up side) q.to ∷ []
 
   in_read : (i j : ℕ) → read_place axes_in (starts_at start.from 0) (j ∷ i ∷ []) ≡ read_place whole start (i ∷ j ∷ [])
   in_read i j = omega arith
@@ -68,19 +62,13 @@ module _ (size : ℕ) (p q : Axis) (start : Start) (source : List ℕ) (target s
   in_written : (i j : ℕ) → written_place axes_in (starts_at start.from 0) (j ∷ i ∷ []) ≡ j * side + i
   in_written i j = omega arith
 
-  turned_read : (i j : ℕ) → read_place axes_turned (starts_at 0 0) (i ∷ j ∷ []) ≡ j * side + i
-  turned_read i j = omega arith
-
-  turned_written : (i j : ℕ) → written_place axes_turned (starts_at 0 0) (i ∷ j ∷ []) ≡ i * side + j
-  turned_written i j = omega arith
-
-  out_read : (i j : ℕ) → read_place axes_out (starts_at 0 start.to) (i ∷ j ∷ []) ≡ i * side + j
+  out_read : (i j : ℕ) → read_place axes_out (starts_at 0 start.to) (i ∷ j ∷ []) ≡ j * side + i
   out_read i j = omega arith
 
-  room_at : (i j : ℕ) → i < side → j < side → (i * side + j) * size + size ≤ room
-  room_at i j b d = tile_room side size room i j b d fits
+  room_at : (i j : ℕ) → i < p.count → j < q.count → (j * side + i) * size + size ≤ room
+  room_at i j bi bj = tile_room side q.count size room j i bj (omega (arith, bi, few_p)) fits
 
-  -- ---- each of the three copies can be made
+  -- ---- both copies can be made
 
   in_one : (x y : List ℕ) → IsInside (counts axes_in) x → IsInside (counts axes_in) y → written_place axes_in (starts_at start.from 0) x ≡ written_place axes_in (starts_at start.from 0) y
       → part_at size source (read_place axes_in (starts_at start.from 0) x) ≡ part_at size source (read_place axes_in (starts_at start.from 0) y)
@@ -106,72 +94,35 @@ module _ (size : ℕ) (p q : Axis) (start : Start) (source : List ℕ) (target s
           (λ j i bj bi. subst (λ (n : ℕ). n * size + size ≤ length source) (sym (in_read i j)) (can.places.reads (i ∷ j ∷ []) (bi, (bj, tt))));
       written_natural = on_two q.count p.count (λ (x : List ℕ). distance (λ a. down a.to) axes_in x ≤ 0 + distance (λ a. up a.to) axes_in x) (λ j i bj bi. omega arith);
       writes = on_two q.count p.count (λ (x : List ℕ). written_place axes_in (starts_at start.from 0) x * size + size ≤ room)
-          (λ j i bj bi. subst (λ (n : ℕ). n * size + size ≤ room) (sym (in_written i j)) (room_at j i (omega (arith, bj, few_q)) (omega (arith, bi, few_p))));
+          (λ j i bj bi. subst (λ (n : ℕ). n * size + size ≤ room) (sym (in_written i j)) (room_at i j bi bj));
     };
     each = record { one = in_one };
   }
 
-  turned_one : (read : List ℕ) (x y : List ℕ) → IsInside (counts axes_turned) x → IsInside (counts axes_turned) y → written_place axes_turned (starts_at 0 0) x ≡ written_place axes_turned (starts_at 0 0) y
-      → part_at size read (read_place axes_turned (starts_at 0 0) x) ≡ part_at size read (read_place axes_turned (starts_at 0 0) y)
-  turned_one read x y h g = on_two p.count q.count (λ (u : List ℕ). written_place axes_turned (starts_at 0 0) u ≡ written_place axes_turned (starts_at 0 0) y
-      → part_at size read (read_place axes_turned (starts_at 0 0) u) ≡ part_at size read (read_place axes_turned (starts_at 0 0) y))
-      (λ i j bi bj. on_two p.count q.count (λ (v : List ℕ). written_place axes_turned (starts_at 0 0) (i ∷ j ∷ []) ≡ written_place axes_turned (starts_at 0 0) v
-      → part_at size read (read_place axes_turned (starts_at 0 0) (i ∷ j ∷ [])) ≡ part_at size read (read_place axes_turned (starts_at 0 0) v))
-      (λ k l bk bl e.
-      let same : i * side + j ≡ k * side + l = sym (turned_written i j) ∙ e ∙ turned_written k l in
-      let first : i ≡ k = tile_first side i j k l (omega (arith, bj, few_q)) (omega (arith, bl, few_q)) same in
-      let second : j ≡ l = tile_second side i j k l (omega (arith, bj, few_q)) (omega (arith, bl, few_q)) same in
-      ap (λ n. part_at size read (read_place axes_turned (starts_at 0 0) (n ∷ j ∷ []))) first ∙ ap (λ n. part_at size read (read_place axes_turned (starts_at 0 0) (k ∷ n ∷ []))) second)
-      y g)
-      x h
-
-  pub can_turn : (read : List ℕ) → length read ≡ room → CanCopy size axes_turned (starts_at 0 0) read room
-  can_turn read long = record {
-    sized = can.sized;
-    places = record {
-      read_natural = on_two p.count q.count (λ (x : List ℕ). distance (λ a. down a.from) axes_turned x ≤ 0 + distance (λ a. up a.from) axes_turned x) (λ i j bi bj. omega arith);
-      reads = on_two p.count q.count (λ (x : List ℕ). read_place axes_turned (starts_at 0 0) x * size + size ≤ length read)
-          (λ i j bi bj. subst (λ (n : ℕ). read_place axes_turned (starts_at 0 0) (i ∷ j ∷ []) * size + size ≤ n) (sym long)
-          (subst (λ (n : ℕ). n * size + size ≤ room) (sym (turned_read i j)) (room_at j i (omega (arith, bj, few_q)) (omega (arith, bi, few_p)))));
-      written_natural = on_two p.count q.count (λ (x : List ℕ). distance (λ a. down a.to) axes_turned x ≤ 0 + distance (λ a. up a.to) axes_turned x) (λ i j bi bj. omega arith);
-      writes = on_two p.count q.count (λ (x : List ℕ). written_place axes_turned (starts_at 0 0) x * size + size ≤ room)
-          (λ i j bi bj. subst (λ (n : ℕ). n * size + size ≤ room) (sym (turned_written i j)) (room_at i j (omega (arith, bi, few_p)) (omega (arith, bj, few_q))));
-    };
-    each = record { one = turned_one read };
-  }
-
-  module _ (e : Endian) (none read blank turned : List ℕ) (long : length turned ≡ room)
-      (came_in : IsStridedCopy size Little axes_in (starts_at start.from 0) source none read)
-      (changed : IsStridedCopy size e axes_turned (starts_at 0 0) read blank turned) where
-    -- an element of the second buffer
-    cell : (i j : ℕ) → i < p.count → j < q.count → part_at size turned (i * side + j) ≡ in_order e (part_at size source (read_place whole start (i ∷ j ∷ [])))
+  module _ (none read : List ℕ) (long : length read ≡ room) (came_in : IsStridedCopy size Little axes_in (starts_at start.from 0) source none read) where
+    -- an element of the buffer
+    cell : (i j : ℕ) → i < p.count → j < q.count → part_at size read (read_place axes_out (starts_at 0 start.to) (i ∷ j ∷ [])) ≡ part_at size source (read_place whole start (i ∷ j ∷ []))
     cell i j bi bj =
-        ap (part_at size turned) (sym (turned_written i j)) ∙ changed.copied (i ∷ j ∷ []) (bi, (bj, tt))
-        ∙ ap (λ n. in_order e (part_at size read n)) (turned_read i j ∙ sym (in_written i j))
-        ∙ ap (in_order e) (came_in.copied (j ∷ i ∷ []) (bj, (bi, tt)) ∙ ap (part_at size source) (in_read i j))
-
-    out_cell : (i j : ℕ) → i < p.count → j < q.count → part_at size turned (read_place axes_out (starts_at 0 start.to) (i ∷ j ∷ [])) ≡ in_order e (part_at size source (read_place whole start (i ∷ j ∷ [])))
-    out_cell i j bi bj = ap (part_at size turned) (out_read i j) ∙ cell i j bi bj
+        ap (part_at size read) (out_read i j ∙ sym (in_written i j)) ∙ came_in.copied (j ∷ i ∷ []) (bj, (bi, tt)) ∙ ap (part_at size source) (in_read i j)
 
     out_one : (x y : List ℕ) → IsInside (counts axes_out) x → IsInside (counts axes_out) y → written_place axes_out (starts_at 0 start.to) x ≡ written_place axes_out (starts_at 0 start.to) y
-        → part_at size turned (read_place axes_out (starts_at 0 start.to) x) ≡ part_at size turned (read_place axes_out (starts_at 0 start.to) y)
+        → part_at size read (read_place axes_out (starts_at 0 start.to) x) ≡ part_at size read (read_place axes_out (starts_at 0 start.to) y)
     out_one x y h g = on_two p.count q.count (λ (u : List ℕ). written_place axes_out (starts_at 0 start.to) u ≡ written_place axes_out (starts_at 0 start.to) y
-        → part_at size turned (read_place axes_out (starts_at 0 start.to) u) ≡ part_at size turned (read_place axes_out (starts_at 0 start.to) y))
+        → part_at size read (read_place axes_out (starts_at 0 start.to) u) ≡ part_at size read (read_place axes_out (starts_at 0 start.to) y))
         (λ i j bi bj. on_two p.count q.count (λ (v : List ℕ). written_place axes_out (starts_at 0 start.to) (i ∷ j ∷ []) ≡ written_place axes_out (starts_at 0 start.to) v
-        → part_at size turned (read_place axes_out (starts_at 0 start.to) (i ∷ j ∷ [])) ≡ part_at size turned (read_place axes_out (starts_at 0 start.to) v))
-        (λ k l bk bl same.
-        out_cell i j bi bj ∙ ap (in_order e) (can.each.one (i ∷ j ∷ []) (k ∷ l ∷ []) (bi, (bj, tt)) (bk, (bl, tt)) same) ∙ sym (out_cell k l bk bl))
+        → part_at size read (read_place axes_out (starts_at 0 start.to) (i ∷ j ∷ [])) ≡ part_at size read (read_place axes_out (starts_at 0 start.to) v))
+        (λ k l bk bl same. cell i j bi bj ∙ can.each.one (i ∷ j ∷ []) (k ∷ l ∷ []) (bi, (bj, tt)) (bk, (bl, tt)) same ∙ sym (cell k l bk bl))
         y g)
         x h
 
-    pub can_out : CanCopy size axes_out (starts_at 0 start.to) turned target
+    pub can_out : CanCopy size axes_out (starts_at 0 start.to) read target
     can_out = record {
       sized = can.sized;
       places = record {
         read_natural = on_two p.count q.count (λ (x : List ℕ). distance (λ a. down a.from) axes_out x ≤ 0 + distance (λ a. up a.from) axes_out x) (λ i j bi bj. omega arith);
-        reads = on_two p.count q.count (λ (x : List ℕ). read_place axes_out (starts_at 0 start.to) x * size + size ≤ length turned)
+        reads = on_two p.count q.count (λ (x : List ℕ). read_place axes_out (starts_at 0 start.to) x * size + size ≤ length read)
             (λ i j bi bj. subst (λ (n : ℕ). read_place axes_out (starts_at 0 start.to) (i ∷ j ∷ []) * size + size ≤ n) (sym long)
-            (subst (λ (n : ℕ). n * size + size ≤ room) (sym (out_read i j)) (room_at i j (omega (arith, bi, few_p)) (omega (arith, bj, few_q)))));
+            (subst (λ (n : ℕ). n * size + size ≤ room) (sym (out_read i j)) (room_at i j bi bj)));
         written_natural = on_two p.count q.count (λ (x : List ℕ). distance (λ a. down a.to) axes_out x ≤ start.to + distance (λ a. up a.to) axes_out x)
             (λ i j bi bj. can.places.written_natural (i ∷ j ∷ []) (bi, (bj, tt)));
         writes = on_two p.count q.count (λ (x : List ℕ). written_place axes_out (starts_at 0 start.to) x * size + size ≤ target)
@@ -180,11 +131,11 @@ module _ (size : ℕ) (p q : Axis) (start : Start) (source : List ℕ) (target s
       each = record { one = out_one };
     }
 
-    pub tile_copied : (old new : List ℕ) → IsStridedCopy size Little axes_out (starts_at 0 start.to) turned old new → IsStridedCopy size e (p ∷ q ∷ []) start source old new
-    tile_copied old new went_out = record {
+    pub tile_copied : (e : Endian) (old new : List ℕ) → IsStridedCopy size e axes_out (starts_at 0 start.to) read old new → IsStridedCopy size e (p ∷ q ∷ []) start source old new
+    tile_copied e old new went_out = record {
       same_length = went_out.same_length;
       copied = on_two p.count q.count (λ (x : List ℕ). part_at size new (written_place whole start x) ≡ in_order e (part_at size source (read_place whole start x)))
-          (λ i j bi bj. went_out.copied (i ∷ j ∷ []) (bi, (bj, tt)) ∙ out_cell i j bi bj);
+          (λ i j bi bj. went_out.copied (i ∷ j ∷ []) (bi, (bj, tt)) ∙ ap (in_order e) (cell i j bi bj));
       others = λ n off. went_out.others n (on_two p.count q.count (λ (x : List ℕ). written_place axes_out (starts_at 0 start.to) x ≡ n → ⊥) (λ i j bi bj. off (i ∷ j ∷ []) (bi, (bj, tt))));
     }
 

@@ -1,5 +1,6 @@
 //! Elements of two axes that are copied along strides, by loops that fit the strides.
 ghost use Rattle.std.specs.Prelude.{◌≡◌, ◌*◌, ◌<◌, ◌≤◌, [], ◌∷◌, IsTrue, length};
+ghost use Rattle.cu_num.specs.Element.{IsSize};
 ghost use Rattle.cu_box.specs.Strided.{IsStridedCopy};
 ghost use Rattle.cu_box.specs.StridedSteps.{CanCopy, IsDenseAxis, IsStart, plane_axes, inner_block_of, outer_block_of};
 
@@ -17,33 +18,42 @@ const FEW: u64 = 8;
 /// The elements of such a stretch.
 const STRETCH: u64 = 1024;
 
-/// The rows and columns of a tile.
-const SIDE: u64 = 32;
+/// The most elements of a row of a tile, which is a part of a row of the source.
+const SIDE: u64 = 64;
 
-/// The columns of a stripe of tiles.
+/// The most elements of a stripe of tiles in a row of the target.
 const STRIPE: u64 = 256;
 
-/// The bytes of a tile of the largest elements.
-const TILE_BYTES: usize = 8192;
+/// The most bytes of a column of a tile, which is a part of a row of the target.
+const COLUMN_BYTES: u64 = 256;
+
+/// The bytes of a tile, which is a part of the first cache.
+const TILE_BYTES: usize = 16384;
+
+/// A block of so many rows and columns that are neighbours is copied without a tile.
+const BLOCK: u64 = 32;
 
 /// Rows whose elements are so few bytes apart are neighbours.
 const NEAR: u64 = 256;
 
-/// Two buffers between which the elements of a tile change places.
+/// Of a block of so few rows, rows as short are copied by parts.
+const SHORT: u64 = 16;
+
+/// The elements of such a part.
+const PART: u64 = 4;
+
+/// A tile, into which rows of the source come and from which rows of the target go out.
 #[derive(Drop)]
 pub(crate) struct Held {
-    /// The rows of the source.
-    read: [u8; TILE_BYTES],
-    /// The rows of the target.
-    turned: [u8; TILE_BYTES],
+    /// The rows of the source, each of as many elements as a tile can have.
+    rows: [u8; TILE_BYTES],
 }
 
 impl Held {
-    /// Buffers for the tiles of one copy.
+    /// A buffer for the tiles of one copy.
     pub(crate) fn make() -> Held {
         Held {
-            read: [0; TILE_BYTES],
-            turned: [0; TILE_BYTES],
+            rows: [0; TILE_BYTES],
         }
     }
 }
@@ -82,8 +92,8 @@ pub(crate) fn copy_plane(
     }
 }
 
-/// The same, for elements of N bytes: rows that stand together whole, a turned plane by streams or by
-/// tiles, and others line by line.
+/// The same, for elements of N bytes: rows that stand together whole, a turned plane by parts of
+/// short rows, by streams or by tiles, and others line by line.
 fn copy_sized<const N: usize>(
     order: Endian,
     plane: Plane,
@@ -98,6 +108,8 @@ fn copy_sized<const N: usize>(
 {
     if !is_turned(plane) {
         copy_rows_of::<N>(order, plane, source, target);
+    } else if is_short(plane) {
+        copy_short::<N>(order, plane, source, target);
     } else if plane.outer.count <= MOST_STREAMS {
         copy_streams::<N>(order, plane, source, target);
     } else if plane.inner.count < FEW || is_near(N as u64, plane) {
@@ -113,15 +125,128 @@ fn is_turned(plane: Plane) -> bool {
     outer != 0 && outer < far(plane.inner.from)
 }
 
-/// Whether the plane is a tile whose rows are neighbours in both buffers.
+/// Whether the rows of the plane are so short that a loop over each would cost more than the
+/// elements.
+fn is_short(plane: Plane) -> bool {
+    plane.inner.count <= PART || plane.outer.count <= SHORT && plane.inner.count <= SHORT
+}
+
+/// Whether the plane is a block whose rows are neighbours in both buffers.
 fn is_near(size: u64, plane: Plane) -> bool {
-    plane.outer.count <= SIDE
-        && plane.inner.count <= SIDE
+    plane.outer.count <= BLOCK
+        && plane.inner.count <= BLOCK
         && far(plane.inner.from).saturating_mul(size) <= NEAR
         && far(plane.outer.to).saturating_mul(size) <= NEAR
 }
 
-/// A plane of few rows: stretches of the rows, one after another, so that both buffers are gone through once.
+/// A plane of short rows: by parts of these where the elements of a column stand together in the
+/// source and those of a row in the target, which is then known in the loops, and else line by
+/// line.
+fn copy_short<const N: usize>(order: Endian, plane: Plane, source: &[u8], target: &mut [u8])
+    requires can { CanCopy N (plane_axes plane) plane.start source.now (length target.old) }
+    requires rows { 0 < plane.outer.count }
+    requires some { 0 < plane.inner.count }
+    ensures { IsStridedCopy N order (plane_axes plane) plane.start source.now target.old target.new }
+{
+    let outer = rising(plane.outer.count, 1, far(plane.outer.to));
+    let inner = rising(plane.inner.count, far(plane.inner.from), 1);
+    if is_axis(plane.outer, outer) && is_axis(plane.inner, inner) {
+        copy_parts::<N>(order, plane, outer, inner, source, target);
+    } else {
+        copy_lines::<N>(order, plane, source, target);
+    }
+}
+
+/// The same of a plane of these axes, of which the call gives as literals what is known.
+#[inline(always)]
+fn copy_parts<const N: usize>(
+    order: Endian,
+    plane: Plane,
+    outer: Axis,
+    inner: Axis,
+    source: &[u8],
+    target: &mut [u8],
+)
+    requires can { CanCopy N (plane_axes plane) plane.start source.now (length target.old) }
+    requires rows { 0 < plane.outer.count }
+    requires outer { plane.outer ≡ outer }
+    requires inner { plane.inner ≡ inner }
+    ensures { IsStridedCopy N order (plane_axes plane) plane.start source.now target.old target.new }
+{
+    let start = plane.start;
+    let same = Plane {
+        outer,
+        inner,
+        start,
+    };
+    copy_each_part::<N>(order, same, source, target);
+}
+
+/// The same, one part of all rows after another.
+#[inline(always)]
+fn copy_each_part<const N: usize>(order: Endian, plane: Plane, source: &[u8], target: &mut [u8])
+    requires can { CanCopy N (plane_axes plane) plane.start source.now (length target.old) }
+    requires rows { 0 < plane.outer.count }
+    ensures { IsStridedCopy N order (plane_axes plane) plane.start source.now target.old target.new }
+{
+    let mut at = 0;
+    while at < plane.inner.count {
+        let count = PART.min(plane.inner.count - at);
+        let part = inner_block(plane, at, count);
+        copy_part::<N>(order, part, source, target);
+        at += count;
+    }
+}
+
+/// One part of all rows. How many elements it has is known in its loop.
+#[inline(always)]
+fn copy_part<const N: usize>(order: Endian, plane: Plane, source: &[u8], target: &mut [u8])
+    requires can { CanCopy N (plane_axes plane) plane.start source.now (length target.old) }
+    requires some { 0 < plane.inner.count }
+    ensures { IsStridedCopy N order (plane_axes plane) plane.start source.now target.old target.new }
+{
+    match plane.inner.count {
+        1 => copy_counted::<N>(order, 1, plane, source, target),
+        2 => copy_counted::<N>(order, 2, plane, source, target),
+        3 => copy_counted::<N>(order, 3, plane, source, target),
+        _ => copy_counted::<N>(order, PART, plane, source, target),
+    }
+}
+
+/// The same where `count` is how many elements it has, if it has as many.
+#[inline(always)]
+fn copy_counted<const N: usize>(
+    order: Endian,
+    count: u64,
+    plane: Plane,
+    source: &[u8],
+    target: &mut [u8],
+)
+    requires can { CanCopy N (plane_axes plane) plane.start source.now (length target.old) }
+    requires some { 0 < plane.inner.count }
+    ensures { IsStridedCopy N order (plane_axes plane) plane.start source.now target.old target.new }
+{
+    let outer = plane.outer;
+    let inner = rising(count, far(plane.inner.from), 1);
+    if is_axis(plane.inner, inner) {
+        copy_going::<N>(order, plane, outer, inner, source, target);
+    } else {
+        copy_each_line::<N>(order, plane, source, target);
+    }
+}
+
+/// An axis of strides that go up.
+#[inline(always)]
+fn rising(count: u64, from: u64, to: u64) -> Axis {
+    Axis {
+        count,
+        from: Stride::Up(from),
+        to: Stride::Up(to),
+    }
+}
+
+/// A plane of few rows: stretches of the rows, one after another, so that both buffers are gone
+/// through once.
 fn copy_streams<const N: usize>(order: Endian, plane: Plane, source: &[u8], target: &mut [u8])
     requires can { CanCopy N (plane_axes plane) plane.start source.now (length target.old) }
     requires rows { 0 < plane.outer.count }
@@ -136,7 +261,8 @@ fn copy_streams<const N: usize>(order: Endian, plane: Plane, source: &[u8], targ
     }
 }
 
-/// A turned plane: stripes of its rows, each by tiles, so that few pages of either buffer are gone through at a time.
+/// A turned plane: stripes of its rows, each by tiles, so that few pages of either buffer are gone
+/// through at a time.
 fn copy_stripes<const N: usize>(
     order: Endian,
     plane: Plane,
@@ -189,20 +315,32 @@ fn copy_tiles<const N: usize>(
 )
     requires can { CanCopy N (plane_axes plane) plane.start source.now (length target.old) }
     requires rows { 0 < plane.outer.count }
-    requires few_rows { plane.outer.count ≤ 32 }
+    requires few_rows { plane.outer.count ≤ 64 }
     ensures { IsStridedCopy N order (plane_axes plane) plane.start source.now target.old target.new }
 {
+    let most = column_length(N as u64);
     let mut at = 0;
     while at < plane.inner.count {
-        let count = SIDE.min(plane.inner.count - at);
+        let count = most.min(plane.inner.count - at);
         let tile = inner_block(plane, at, count);
         copy_tile::<N>(order, tile, source, target, held);
         at += count;
     }
 }
 
-/// One tile: rows of the source come in whole and rows of the target go out whole, and between two buffers that fit the first
-/// cache the elements change places.
+/// How many elements of `size` bytes a column of a tile has at most.
+#[inline(always)]
+fn column_length(size: u64) -> u64
+    requires { IsSize size }
+    ensures some { 0 < result }
+    ensures few { result * size ≤ 256 }
+{
+    SIDE.min(COLUMN_BYTES / size)
+}
+
+/// One tile: rows of the source come in whole, and from a buffer within the first cache the
+/// elements go out by rows of the target. Columns of the source itself fall into few places of the
+/// cache where its rows are as long as a power of two.
 fn copy_tile<const N: usize>(
     order: Endian,
     plane: Plane,
@@ -213,8 +351,8 @@ fn copy_tile<const N: usize>(
     requires can { CanCopy N (plane_axes plane) plane.start source.now (length target.old) }
     requires rows { 0 < plane.outer.count }
     requires some { 0 < plane.inner.count }
-    requires few_rows { plane.outer.count ≤ 32 }
-    requires few { plane.inner.count ≤ 32 }
+    requires few_rows { plane.outer.count ≤ 64 }
+    requires few { plane.inner.count * N ≤ 256 }
     ensures { IsStridedCopy N order (plane_axes plane) plane.start source.now target.old target.new }
 {
     let (outer, inner) = (plane.outer, plane.inner);
@@ -234,30 +372,16 @@ fn copy_tile<const N: usize>(
             to: 0,
         },
     };
-    copy_tile_rows::<N>(Endian::Little, into, source, &mut held.read);
-    let turn = Plane {
-        outer: Axis {
-            count: outer.count,
-            from: Stride::Up(1),
-            to: Stride::Up(SIDE),
-        },
-        inner: Axis {
-            count: inner.count,
-            from: Stride::Up(SIDE),
-            to: Stride::Up(1),
-        },
-        start: Start { from: 0, to: 0 },
-    };
-    copy_each_line::<N>(order, turn, &held.read, &mut held.turned);
+    copy_tile_rows::<N>(Endian::Little, into, source, &mut held.rows);
     let out = Plane {
         outer: Axis {
             count: outer.count,
-            from: Stride::Up(SIDE),
+            from: Stride::Up(1),
             to: outer.to,
         },
         inner: Axis {
             count: inner.count,
-            from: Stride::Up(1),
+            from: Stride::Up(SIDE),
             to: inner.to,
         },
         start: Start {
@@ -265,7 +389,23 @@ fn copy_tile<const N: usize>(
             to: plane.start.to,
         },
     };
-    copy_tile_rows::<N>(Endian::Little, out, &held.turned, target);
+    copy_tile_columns::<N>(order, out, &held.rows, target);
+}
+
+/// The columns of a tile, most of which have as many elements as a tile can have.
+#[inline(always)]
+fn copy_tile_columns<const N: usize>(order: Endian, plane: Plane, source: &[u8], target: &mut [u8])
+    requires can { CanCopy N (plane_axes plane) plane.start source.now (length target.old) }
+    requires rows { 0 < plane.outer.count }
+    requires some { 0 < plane.inner.count }
+    ensures { IsStridedCopy N order (plane_axes plane) plane.start source.now target.old target.new }
+{
+    let whole = rising(column_length(N as u64), SIDE, 1);
+    if is_axis(plane.inner, whole) {
+        copy_going::<N>(order, plane, plane.outer, whole, source, target);
+    } else {
+        copy_short::<N>(order, plane, source, target);
+    }
 }
 
 /// Rows whole where they stand together, else element by element.
@@ -353,8 +493,10 @@ fn is_next(stride: Stride) -> bool
     }
 }
 
-/// The same where the elements along the inner axis follow one another, `bytes` at a time. How many bytes a short row has is
-/// known in its loop.
+/// The same where the elements along the inner axis follow one another, `bytes` at a time. How many
+/// bytes a short row has is known in its loop. A call keeps the loops apart from all others, beside
+/// which the compiler would hold their numbers in memory: a row would then take two stores.
+#[inline(never)]
 fn copy_runs<const N: usize>(
     order: Endian,
     bytes: u64,
@@ -435,62 +577,63 @@ fn copy_dense<const N: usize>(
     );
 }
 
-/// The same element by element. How far a step goes is known in the loops of the strides that come most often, and in those of a
-/// turned plane which way.
+/// The same element by element. How far a step goes is known in the loops of the strides that come
+/// most often, and in those of a turned plane which way.
 fn copy_lines<const N: usize>(order: Endian, plane: Plane, source: &[u8], target: &mut [u8])
     requires can { CanCopy N (plane_axes plane) plane.start source.now (length target.old) }
     requires some { 0 < plane.inner.count }
     ensures { IsStridedCopy N order (plane_axes plane) plane.start source.now target.old target.new }
 {
-    let (down, still, next) = (Stride::Down(1), Stride::Up(0), Stride::Up(1));
-    if goes(plane.inner, down, next) {
-        copy_going::<N>(order, plane, down, next, source, target);
-    } else if goes(plane.inner, still, next) {
-        copy_going::<N>(order, plane, still, next, source, target);
-    } else if goes(plane.inner, next, next) {
-        copy_going::<N>(order, plane, next, next, source, target);
-    } else if let Stride::Up(far) = plane.inner.from
-        && plane.inner.to == next
-    {
-        copy_going::<N>(order, plane, Stride::Up(far), next, source, target);
+    let (outer, count) = (plane.outer, plane.inner.count);
+    let down = Axis {
+        count,
+        from: Stride::Down(1),
+        to: Stride::Up(1),
+    };
+    let (still, next) = (rising(count, 0, 1), rising(count, 1, 1));
+    let up = rising(count, far(plane.inner.from), 1);
+    if is_axis(plane.inner, down) {
+        copy_going::<N>(order, plane, outer, down, source, target);
+    } else if is_axis(plane.inner, still) {
+        copy_going::<N>(order, plane, outer, still, source, target);
+    } else if is_axis(plane.inner, next) {
+        copy_going::<N>(order, plane, outer, next, source, target);
+    } else if is_axis(plane.inner, up) {
+        copy_going::<N>(order, plane, outer, up, source, target);
     } else {
         copy_each_line::<N>(order, plane, source, target);
     }
 }
 
-/// Whether these are the strides of an axis.
+/// Whether an axis is the one that is known.
 #[inline(always)]
-fn goes(axis: Axis, from: Stride, to: Stride) -> bool
-    ensures read { IsTrue result → axis.from ≡ from }
-    ensures written { IsTrue result → axis.to ≡ to }
+fn is_axis(axis: Axis, known: Axis) -> bool
+    ensures { IsTrue result → axis ≡ known }
 {
-    axis.from == from && axis.to == to
+    axis.count == known.count && axis.from == known.from && axis.to == known.to
 }
 
-/// The same of a plane whose inner axis has these strides, which each call gives as literals.
+/// The same of a plane of these axes, of which each call gives as literals what is known.
 #[inline(always)]
 fn copy_going<const N: usize>(
     order: Endian,
     plane: Plane,
-    from: Stride,
-    to: Stride,
+    outer: Axis,
+    inner: Axis,
     source: &[u8],
     target: &mut [u8],
 )
     requires can { CanCopy N (plane_axes plane) plane.start source.now (length target.old) }
     requires some { 0 < plane.inner.count }
-    requires read { plane.inner.from ≡ from }
-    requires written { plane.inner.to ≡ to }
+    requires outer { plane.outer ≡ outer }
+    requires inner { plane.inner ≡ inner }
     ensures { IsStridedCopy N order (plane_axes plane) plane.start source.now target.old target.new }
 {
+    let start = plane.start;
     let same = Plane {
-        outer: plane.outer,
-        inner: Axis {
-            count: plane.inner.count,
-            from,
-            to,
-        },
-        start: plane.start,
+        outer,
+        inner,
+        start,
     };
     copy_each_line::<N>(order, same, source, target);
 }

@@ -1,4 +1,5 @@
-use Rattle.std.proofs.Common.{[], ◌∷◌, length, arith}
+use Rattle.std.proofs.Common.{[], ◌∷◌, ◌*◌, ◌≤◌, length, arith}
+use Rattle.std.proofs.Math.Nat.{mul-le-mul_right}
 use Rattle.cu_box.proofs.StridedLoops.{none_copied, all_copied, start_of, one_axis}
 use Rattle.cu_box.proofs.StridedBlocks.{inner_can, inner_counts, inner_copied, copied_exchanged, can_exchanged}
 use Rattle.cu_box.proofs.planes.copy_tiles.Goals as goal
@@ -49,4 +50,7 @@ copy_tile-requires-clause-few_rows g c =
 pub copy_tile-requires-clause-few : goal.copy_tile-requires-clause-few
 copy_tile-requires-clause-few g c =
     let n = inner_counts g.row.N c.args.plane c.inner_block-tile.result c.loop-at.at c.min-count.result c.args.source.now (length c.args.target.now) c.requires.can c.requires.rows (omega arith) (omega arith) c.inner_block-tile.ensures in
-    omega (arith, n.1)
+    let most : c.column_length-most.result * g.row.N ≤ 256 = c.column_length-most.ensures.few in
+    let low : c.inner_block-tile.result.inner.count ≤ c.column_length-most.result = omega (arith, n.1) in
+    let all = mul-le-mul_right g.row.N low in
+    omega (arith, all, most)
