@@ -1,5 +1,5 @@
 -- What a step over the rows of earlier steps reads and leaves.
-use Rattle.std.proofs.Common.{◌≡◌, ◌≢◌, ℕ, ◌+◌, ◌*◌, ◌<◌, ◌≤◌, suc, List, length, ◌++◌, drop, get_or, Option, None, Some, IfSome, IsTrue, Bool as Test, refl, ap, sym, ◌∙◌, subst, arith, ℤ, pos, length-append}
+use Rattle.std.proofs.Common.{◌≡◌, ◌≢◌, ℕ, ◌+◌, ◌*◌, ◌<◌, ◌≤◌, suc, List, length, ◌++◌, drop, get_or, Option, None, Some, IfSome, IsTrue, Bool as Test, refl, ap, sym, ◌∙◌, subst, arith, ℤ, pos, inl, inr, length-append}
 use Rattle.std.specs.List.{slice_get}
 use Rattle.std.proofs.lemmas.Option.{same_Some, slice_get-get_or}
 use Rattle.std.proofs.Math.Nat.{mul-le-mul_right}
@@ -25,7 +25,7 @@ use Rattle.cu_kern.specs.declared.calls.Call.TheVariants as call
 use Rattle.cu_kern.specs.Lays.{HasValue}
 use Rattle.cu_kern.proofs.CallValues.{selected_in_range}
 use Rattle.cu_kern.specs.declared.rows.Row.{Row}
-use Rattle.cu_kern.specs.Rows.{Rows, Stands, HasElement, HasStepResults, HasResultsOf, HasSameElements, IsExtreme}
+use Rattle.cu_kern.specs.Rows.{Rows, Stands, HasElement, HasStepResults, HasResultsOf, HasSameElements, IsSource, IsExtreme}
 use Rattle.cu_kern.specs.Strips.{Strip, strip, strip_element, extreme, HasPlaces, HasResults}
 use Rattle.cu_kern.proofs.Parts.{size_most}
 use Rattle.cu_kern.proofs.RowSteps.{element_in_front}
@@ -110,6 +110,21 @@ converted_same from t x part more count p long results = record {
 
     fits : (k : ℕ) → k < count → k * size_of t + size_of t ≤ length part
     fits k below = let last : suc k * size_of t ≤ count * size_of t = mul-le-mul_right (size_of t) (let l : suc k ≤ count = omega arith in l) in omega arith
+
+-- what a step converts, as what it gives
+pub source_results : (r : Rows) (loads : ℕ → ℕ → Option ℤ) (count a k : ℕ) (from t : Dtype) (s : Strip) → promotion from t ≡ Some t → IsSource r.code r.number t a k → HasResultsOf r loads count k from s → HasResultsOf r loads count a from s
+source_results r loads count a k from t s p (inl e) h = let P : ℕ → Type 0 = λ k. HasResultsOf r loads count k from s in subst P e h
+source_results r loads count a k from t s p (inr (before, is, other)) h = record {
+  places = h.places;
+  elements = λ j results below stand.
+      let x = get_or results a (pos 0) in
+      let v = strip_element from s j in
+      let there = result_there r (loads j) j a results stand before in
+      let value : option_map (op1 Astype t) (slice_get results k) ≡ Some x = stand.values a x (One Astype t k) there is in
+      let range : InRange t v = first_in_range from t t p v (InRange-element_at Little from s.bytes (s.step * j)) in
+      let same : x ≡ v = same_Some x v (sym value ∙ ap (option_map (op1 Astype t)) (h.elements j results below stand) ∙ ap Some (wrapped_in_range t v range)) in
+      there ∙ ap Some same;
+}
 
 pub own_type_same : (from t : Dtype) (x : Strip) (count : ℕ) → from ≡ t → HasPlaces from x count → HasSameElements from x t x count
 own_type_same from t x count e places =

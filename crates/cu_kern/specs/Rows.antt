@@ -1,11 +1,12 @@
 -- A kernel along a row of places: each step has bytes of one bank for its results, as elements of a type, and reads those of earlier
 -- steps.
-use Rattle.std.specs.Prelude.{◌≡◌, ℕ, ◌+◌, ◌*◌, ◌<◌, ◌≤◌, ℤ, List, length, drop, Option, Some, Bool, IsTrue}
+use Rattle.std.specs.Prelude.{◌≡◌, ◌≢◌, ◌⊎◌, ℕ, ◌+◌, ◌*◌, ◌<◌, ◌≤◌, ℤ, List, length, drop, Option, Some, Bool, IsTrue}
 use Rattle.std.specs.List.{slice_get}
 use Rattle.std.specs.Option.{option_and_then}
 use Rattle.cu_num.specs.Dtype.{size_of}
 use Rattle.cu_num.specs.Element.{element_at}
 use Rattle.cu_num.specs.Scalar.{op2}
+use Rattle.cu_num.specs.declared.functions.Fn1.TheVariants.{Astype}
 use Rattle.cu_num.specs.declared.functions.Fn2.{Fn2}
 use Rattle.cu_num.specs.declared.types.Dtype.{Dtype}
 use Rattle.cu_num.specs.declared.layout.Endian.TheVariants.{Little}
@@ -87,6 +88,10 @@ pub record HasResultsOf (r : Rows) (loads : ℕ → ℕ → Option ℤ) (count a
 pub record HasSameElements (from : Dtype) (x : Strip) (t : Dtype) (y : Strip) (count : ℕ) : Type 0 where
   pub places : HasPlaces t y count
   pub same : (k : ℕ) → k < count → strip_element t y k ≡ strip_element from x k
+
+-- step k is step a, or an earlier one that is no literal and that step a converts to the type
+abbrev pub IsSource : List Instr → ℕ → Dtype → ℕ → ℕ → Type 0
+IsSource code number t a k = (k ≡ a) ⊎ ((a < number) × (slice_get code a ≡ Some (One Astype t k)) × ((y : ℤ) → slice_get code k ≢ Some (Const y)))
 
 -- what a step reads is there: a region, or the results of earlier steps
 abbrev pub ReadsEarlier : Instr → ℕ → ℕ → Type 0

@@ -2,16 +2,18 @@
 use Rattle.std.specs.Prelude.{◌≡◌, ℕ, ◌+◌, ◌*◌, ◌/◌, ◌<◌, ◌≤◌, ℤ, List, length, if◌then◌else◌}
 use Rattle.std.specs.Prelude.{Bool as Test}
 use Rattle.std.specs.Int.{int_min, int_max}
-use Rattle.cu_num.specs.Dtype.{size_of}
+use Rattle.cu_num.specs.Dtype.{size_of, InRange}
 use Rattle.cu_num.specs.Element.{element_at, element_bytes, bytes_at}
 use Rattle.cu_num.specs.Scalar.{op1, op2, result_type1, result_type2}
+use Rattle.cu_num.specs.declared.functions.Fn1.TheVariants as fn1
+use Rattle.cu_num.specs.declared.functions.Fn2.TheVariants.{Multiply}
 use Rattle.cu_num.specs.declared.types.Dtype.{Dtype}
 use Rattle.cu_num.specs.declared.types.Dtype.TheVariants.{Bool}
 use Rattle.cu_num.specs.declared.layout.Endian.TheVariants.{Little}
 use Rattle.cu_op.specs.Kernel.{selected}
 use Rattle.cu_op.specs.KernelTypes.{IsArgument}
 use Rattle.cu_kern.specs.declared.calls.Call.{Call}
-use Rattle.cu_kern.specs.declared.calls.Call.TheVariants.{One, Two, Select, Extreme}
+use Rattle.cu_kern.specs.declared.calls.Call.TheVariants.{One, Two, Select, Extreme, Product, Square}
 
 -- the type of a call's first argument, and that of the others, which a call of one argument has in name alone
 abbrev pub first_type : Call → Dtype
@@ -19,12 +21,16 @@ first_type (One f from t) = from
 first_type (Two f t) = t
 first_type (Select t) = Bool
 first_type (Extreme least t) = t
+first_type (Product from t) = from
+first_type (Square from t) = from
 
 abbrev pub other_type : Call → Dtype
 other_type (One f from t) = from
 other_type (Two f t) = t
 other_type (Select t) = t
 other_type (Extreme least t) = t
+other_type (Product from t) = from
+other_type (Square from t) = from
 
 -- the least of two numbers, or else the greatest
 abbrev pub extreme : Test → ℤ → ℤ → ℤ
@@ -36,16 +42,26 @@ call_type (One f from t) = result_type1 f t
 call_type (Two f t) = result_type2 f t
 call_type (Select t) = t
 call_type (Extreme least t) = t
+call_type (Product from t) = t
+call_type (Square from t) = t
 
 abbrev pub call_value : Call → ℤ → ℤ → ℤ → ℤ
 call_value (One f from t) x y z = op1 f t x
 call_value (Two f t) x y z = op2 f t x y
 call_value (Select t) x y z = selected x y z
 call_value (Extreme least t) x y z = extreme least x y
+call_value (Product from t) x y z = op2 Multiply t x y
+call_value (Square from t) x y z = op1 fn1.Square t x
 
--- a function of one argument has its type
+-- each number of the first type is one of the second
+abbrev pub WidensTo : Dtype → Dtype → Type 0
+WidensTo from t = (x : ℤ) → InRange from x → InRange t x
+
+-- a function of one argument has its type, and a product has numbers of its own
 abbrev pub IsCall : Call → Type 0
 IsCall (One f from t) = IsArgument f from t
+IsCall (Product from t) = WidensTo from t
+IsCall (Square from t) = WidensTo from t
 IsCall call = Unit {0}
 
 pub record Strip : Type 0 where

@@ -6,12 +6,14 @@ ghost use Rattle.cu_num.specs.Element.{element_at};
 ghost use Rattle.cu_num.specs.Promotion.{promotion};
 ghost use Rattle.cu_num.specs.declared.layout.Endian.TheVariants.{Little};
 ghost use Rattle.cu_shape.specs.Index.{product};
-ghost use Rattle.cu_op.specs.declared.kernel.Instr.TheVariants.{Const};
+ghost use Rattle.cu_num.specs.declared.functions.Fn1.TheVariants.{Astype};
+ghost use Rattle.cu_op.specs.declared.kernel.Instr.TheVariants.{Const, One};
 ghost use Rattle.cu_op.specs.KernelTypes.{IsArgument};
 ghost use Rattle.cu_kern.specs.Lays.{LayFits};
 ghost use Rattle.cu_kern.specs.Strips.{strip, strip_element, HasPlaces};
-ghost use Rattle.cu_kern.specs.Rows.{rows_before, loads_along, HasResultsOf, HasSameElements};
+ghost use Rattle.cu_kern.specs.Rows.{rows_before, loads_along, HasResultsOf, HasSameElements, IsSource};
 
+use crate::by_type::call_by_type;
 use crate::calls::Call;
 use crate::lays::pace_of;
 use crate::regions::{Inputs, LaidRegion, left_in, strip_from};
@@ -32,9 +34,17 @@ pub(crate) fn literal_at(code: &[Instr], a: u32, t: Dtype) -> [u8; 8]
     }
 }
 
-/// A number as an element of the type, with zeros behind; another is wrapped to the type.
-#[inline(always)]
+/// A number as an element of the type, with zeros behind; another is wrapped to the type. With the type written out it is made in a
+/// register: read in one piece after it was written in two, it would hold a processor up.
+#[inline(never)]
 fn spelled(t: Dtype, x: i128) -> [u8; 8]
+    ensures { InRange t x → element_at Little t result 0 ≡ x }
+{
+    call_by_type!(spelled_as, [], t, [x])
+}
+
+#[inline(always)]
+fn spelled_as(t: Dtype, x: i128) -> [u8; 8]
     ensures { InRange t x → element_at Little t result 0 ≡ x }
 {
     let mut bytes = [0; 8];
@@ -164,6 +174,92 @@ pub(crate) fn found<'a>(
             }
         }
     }
+}
+
+/// The step whose numbers a step converts to the type, where it is one of the first `number` and no literal is converted; none of
+/// another step.
+#[inline(always)]
+fn conversion_at(code: &[Instr], number: usize, a: u32, t: Dtype) -> Option<u32>
+    ensures before { IfSome result (λ k. a < number) }
+    ensures converts { IfSome result (λ k. slice_get code.now a ≡ Some (One Astype t k)) }
+    ensures other { IfSome result (λ k. (y : ℤ) → slice_get code.now k ≢ Some (Const y)) }
+{
+    if a as usize >= number || a as usize >= code.len() {
+        return None;
+    }
+    let step = code[a as usize];
+    match step {
+        Instr::One(Fn1::Astype, s, k) if s == t && !is_literal(step_at(code, k)) => Some(k),
+        _ => None,
+    }
+}
+
+/// The step whose numbers an argument has before it converts them to the type; of a step that converts none itself.
+#[inline(always)]
+pub(crate) fn source_of(code: &[Instr], number: usize, a: u32, t: Dtype) -> u32
+    ensures { IsSource code.now number t a result }
+{
+    match conversion_at(code, number, a, t) {
+        Some(k) => k,
+        None => a,
+    }
+}
+
+/// Whether the numbers of an argument's source are elements of this type.
+fn reads_as(code: &[Instr], rows: &[Row], source: u32, kind: Dtype) -> bool {
+    let step = step_at(code, source);
+    if is_literal(step) {
+        return literal_fits(step, kind);
+    }
+    kind_at(rows, source) == kind
+}
+
+/// The narrower type of at most 32 bits in which two arguments of a type of at least 32 stand before they are converted to it; none
+/// where they don't. To the type it is promoted.
+pub(crate) fn origin_of(
+    code: &[Instr],
+    rows: &[Row],
+    number: usize,
+    args: (u32, u32),
+    t: Dtype,
+) -> Option<Dtype>
+    ensures { IfSome result (λ origin. promotion origin t ≡ Some t) }
+{
+    let a = source_of(code, number, args.0, t);
+    let b = source_of(code, number, args.1, t);
+    let of = if is_literal(step_at(code, a)) { b } else { a };
+    let origin = kind_at(rows, of);
+    if origin == t || size(origin) > 4 || size(t) < 4 {
+        return None;
+    }
+    if !reads_as(code, rows, a, origin) || !reads_as(code, rows, b, origin) {
+        return None;
+    }
+    match promote(origin, t) {
+        Some(r) if r == t => Some(origin),
+        _ => None,
+    }
+}
+
+/// `found` of an argument of type `t` where it stands before it is converted to it, as elements of a type that is promoted to it.
+#[inline(always)]
+pub(crate) fn found_unconverted<'a>(
+    earlier: Earlier<'a>,
+    a: u32,
+    origin: Dtype,
+    t: Dtype,
+    literal: &'a [u8; 8],
+) -> Option<Strip<'a>>
+    requires lays { All (LayFits earlier.kernel.inputs.dims.now (length earlier.kernel.inputs.ins.now)) earlier.kernel.inputs.lays.now }
+    requires small { product earlier.kernel.inputs.dims.now < 2 ^ 63 }
+    requires within { earlier.range.from + earlier.range.count ≤ product earlier.kernel.inputs.dims.now }
+    requires promoted { promotion origin t ≡ Some t }
+    requires literal { (y : ℤ) → slice_get earlier.kernel.code.now a ≡ Some (Const y) → InRange origin y → element_at Little origin literal.now 0 ≡ y }
+    ensures { IfSome result (λ s. HasResultsOf (rows_before earlier.entry.kernel.code.now earlier.entry.kernel.rows.now earlier.entry.bytes.now earlier.entry.number)
+        (loads_along earlier.entry.kernel.inputs.lays.now earlier.entry.kernel.inputs.ins.now earlier.entry.kernel.inputs.dims.now earlier.entry.range.from) earlier.entry.range.count a origin (strip s.bytes.now s.step)) }
+{
+    let source = source_of(earlier.kernel.code, earlier.number, a, t);
+    found(earlier, source, origin, literal)
 }
 
 /// The results of an earlier step as elements of the type, over spare bytes where theirs are of another; none where they aren't there

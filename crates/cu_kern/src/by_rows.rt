@@ -6,9 +6,10 @@ ghost use Rattle.cu_kern.specs.Lays.{LayFits, HasValue};
 ghost use Rattle.cu_kern.specs.Steps.{value_by_place};
 ghost use Rattle.cu_kern.specs.Rows.{step_rows, loads_along, RowsAt};
 
+use crate::arguments::{origin_of, source_of};
 use crate::lays::{Lay, pace_of};
 use crate::regions::{Inputs, left_in};
-use crate::row_steps::{extreme_of, leave_row, row_of_step};
+use crate::row_steps::{extreme_of, leave_row, row_of_step, widens_one, widens_two};
 use crate::rows::{Earlier, PlaceRange, Row, RowKernel, RowLoad, is_literal, kind_at, step_at};
 use cu_num::{Dtype, promote, result1, result2, size};
 use cu_op::Instr;
@@ -254,18 +255,16 @@ fn rows_of(code: &[Instr], inputs: Inputs<'_>) -> [Row; STEPS]
     rows
 }
 
-/// Has rows kept of the steps that a step reads. A choice that is an extreme doesn't read its condition.
+/// Has rows kept of the steps that a step reads. A choice that is an extreme doesn't read its condition, and a product of converted
+/// numbers reads them before.
 fn keep_read(number: usize, code: &[Instr], rows: &mut [Row; STEPS])
     requires step { number < length code.now }
     requires row { number < 32 }
 {
     match code[number] {
         Instr::Load(_) | Instr::Const(_) => (),
-        Instr::One(_, _, a) => keep_computed(a as usize, rows),
-        Instr::Two(_, _, a, b) => {
-            keep_computed(a as usize, rows);
-            keep_computed(b as usize, rows);
-        }
+        Instr::One(f, t, a) => keep_arguments(widens_one(f), number, (a, a), t, code, rows),
+        Instr::Two(f, t, a, b) => keep_arguments(widens_two(f), number, (a, b), t, code, rows),
         Instr::Select(c, a, b) => {
             if extreme_of(code, number, (c, a, b), rows[number].dtype).is_none() {
                 keep_computed(c as usize, rows);
@@ -273,6 +272,25 @@ fn keep_read(number: usize, code: &[Instr], rows: &mut [Row; STEPS])
             keep_computed(a as usize, rows);
             keep_computed(b as usize, rows);
         }
+    }
+}
+
+/// Has rows kept of a step's arguments of this type, or of what they convert to it where it may be read before.
+fn keep_arguments(
+    widens: bool,
+    number: usize,
+    args: (u32, u32),
+    t: Dtype,
+    code: &[Instr],
+    rows: &mut [Row; STEPS],
+) {
+    let (a, b) = args;
+    if widens && origin_of(code, rows, number, args, t).is_some() {
+        keep_computed(source_of(code, number, a, t) as usize, rows);
+        keep_computed(source_of(code, number, b, t) as usize, rows);
+    } else {
+        keep_computed(a as usize, rows);
+        keep_computed(b as usize, rows);
     }
 }
 

@@ -19,6 +19,10 @@ pub(crate) enum Call {
     Select(Dtype),
     /// The least of two arguments of the type, or else the greatest.
     Extreme(bool, Dtype),
+    /// The product of two arguments of the first type, as a number of the second, which has all numbers of the first.
+    Product(Dtype, Dtype),
+    /// The product of an argument with itself, of the types of `Product`.
+    Square(Dtype, Dtype),
 }
 
 /// The type of the result.
@@ -31,6 +35,8 @@ pub(crate) fn call_type(call: Call) -> Dtype
         Call::Two(f, t) => result2(f, t),
         Call::Select(t) => t,
         Call::Extreme(_, t) => t,
+        Call::Product(_, t) => t,
+        Call::Square(_, t) => t,
     }
 }
 

@@ -3,13 +3,16 @@
 ghost use Rattle.std.specs.Prelude.{◌≡◌, ◌≢◌, ◌+◌, ◌*◌, ◌^◌, ◌≤◌, ◌<◌, ℤ, All, IsTrue, IfSome, Some, length};
 ghost use Rattle.std.specs.List.{slice_get};
 ghost use Rattle.cu_num.specs.Dtype.{size_of};
+ghost use Rattle.cu_num.specs.Promotion.{promotion};
 ghost use Rattle.cu_num.specs.Scalar.{result_type1, result_type2};
 ghost use Rattle.cu_shape.specs.Index.{product};
 ghost use Rattle.cu_op.specs.declared.kernel.Instr.TheVariants.{Load, Const, One, Two, Select};
 ghost use Rattle.cu_kern.specs.Lays.{LayFits};
 ghost use Rattle.cu_kern.specs.Rows.{Rows, rows_before, loads_along, Computes, left_row, Leaves, IsExtreme, ReadsEarlier};
 
-use crate::arguments::{found, found_in_type, kind_found, literal_at, takes};
+use crate::arguments::{
+    found, found_in_type, found_unconverted, kind_found, literal_at, origin_of, takes,
+};
 use crate::calls::Call;
 use crate::fills::row_of_region;
 use crate::regions::{Inputs, LaidRegion};
@@ -17,6 +20,95 @@ use crate::rows::{Earlier, PlaceRange, Row};
 use crate::strip_functions::call_strips;
 use cu_num::{Dtype, Fn1, Fn2, result1, result2, size};
 use cu_op::Instr;
+
+/// Whether the loops of a function of one argument read it before its conversion.
+pub(crate) fn widens_one(f: Fn1) -> bool
+    ensures { IsTrue result → f ≡ Fn1.Square }
+{
+    f == Fn1::Square
+}
+
+/// Whether the loops of a function of two arguments read them before their conversion.
+pub(crate) fn widens_two(f: Fn2) -> bool
+    ensures { IsTrue result → f ≡ Fn2.Multiply }
+{
+    f == Fn2::Multiply
+}
+
+/// The narrower type in which a function's argument is read before its conversion; none where it is read after it.
+#[inline(always)]
+fn origin_of_one(f: Fn1, t: Dtype, a: u32, earlier: Earlier<'_>) -> Option<Dtype>
+    ensures function { IfSome result (λ origin. f ≡ Fn1.Square) }
+    ensures promoted { IfSome result (λ origin. promotion origin t ≡ Some t) }
+{
+    if !widens_one(f) {
+        return None;
+    }
+    let kernel = earlier.kernel;
+    origin_of(kernel.code, kernel.rows, earlier.number, (a, a), t)
+}
+
+/// The narrower type in which both arguments of a function are read before their conversion; none where they are read after it.
+#[inline(always)]
+fn origin_of_two(f: Fn2, t: Dtype, steps: (u32, u32), earlier: Earlier<'_>) -> Option<Dtype>
+    ensures function { IfSome result (λ origin. f ≡ Fn2.Multiply) }
+    ensures promoted { IfSome result (λ origin. promotion origin t ≡ Some t) }
+{
+    if !widens_two(f) {
+        return None;
+    }
+    let kernel = earlier.kernel;
+    origin_of(kernel.code, kernel.rows, earlier.number, steps, t)
+}
+
+/// The squares of an earlier step, read as numbers of a narrower type; `false` where types differ.
+#[inline(always)]
+fn row_of_square(origin: Dtype, t: Dtype, a: u32, earlier: Earlier<'_>, out: &mut [u8]) -> bool
+    requires lays { All (LayFits earlier.kernel.inputs.dims.now (length earlier.kernel.inputs.ins.now)) earlier.kernel.inputs.lays.now }
+    requires small { product earlier.kernel.inputs.dims.now < 2 ^ 63 }
+    requires within { earlier.range.from + earlier.range.count ≤ product earlier.kernel.inputs.dims.now }
+    requires promoted { promotion origin t ≡ Some t }
+    requires room { length out.old ≡ earlier.range.count * size_of t }
+    ensures { IsTrue result → Computes (One Fn1.Square t a) t (rows_before earlier.entry.kernel.code.now earlier.entry.kernel.rows.now earlier.entry.bytes.now earlier.entry.number)
+        (loads_along earlier.entry.kernel.inputs.lays.now earlier.entry.kernel.inputs.ins.now earlier.entry.kernel.inputs.dims.now earlier.entry.range.from) out.new }
+{
+    let literal = literal_at(earlier.kernel.code, a, origin);
+    let Some(x) = found_unconverted(earlier, a, origin, t, &literal) else {
+        return false;
+    };
+    call_strips(Call::Square(origin, t), x, x, x, out);
+    true
+}
+
+/// The products of two earlier steps, read as numbers of a narrower type; `false` where types differ.
+#[inline(always)]
+fn row_of_product(
+    origin: Dtype,
+    t: Dtype,
+    steps: (u32, u32),
+    earlier: Earlier<'_>,
+    out: &mut [u8],
+) -> bool
+    requires lays { All (LayFits earlier.kernel.inputs.dims.now (length earlier.kernel.inputs.ins.now)) earlier.kernel.inputs.lays.now }
+    requires small { product earlier.kernel.inputs.dims.now < 2 ^ 63 }
+    requires within { earlier.range.from + earlier.range.count ≤ product earlier.kernel.inputs.dims.now }
+    requires promoted { promotion origin t ≡ Some t }
+    requires room { length out.old ≡ earlier.range.count * size_of t }
+    ensures { IsTrue result → Computes (Two Fn2.Multiply t steps.0 steps.1) t (rows_before earlier.entry.kernel.code.now earlier.entry.kernel.rows.now earlier.entry.bytes.now earlier.entry.number)
+        (loads_along earlier.entry.kernel.inputs.lays.now earlier.entry.kernel.inputs.ins.now earlier.entry.kernel.inputs.dims.now earlier.entry.range.from) out.new }
+{
+    let (a, b) = steps;
+    let first = literal_at(earlier.kernel.code, a, origin);
+    let second = literal_at(earlier.kernel.code, b, origin);
+    let Some(x) = found_unconverted(earlier, a, origin, t, &first) else {
+        return false;
+    };
+    let Some(y) = found_unconverted(earlier, b, origin, t, &second) else {
+        return false;
+    };
+    call_strips(Call::Product(origin, t), x, y, y, out);
+    true
+}
 
 /// A function of an earlier step; `false` where types differ.
 #[inline(always)]
@@ -28,6 +120,9 @@ fn row_of_one(f: Fn1, t: Dtype, a: u32, earlier: Earlier<'_>, out: &mut [u8]) ->
     ensures { IsTrue result → Computes (One f t a) (result_type1 f t) (rows_before earlier.entry.kernel.code.now earlier.entry.kernel.rows.now earlier.entry.bytes.now earlier.entry.number)
         (loads_along earlier.entry.kernel.inputs.lays.now earlier.entry.kernel.inputs.ins.now earlier.entry.kernel.inputs.dims.now earlier.entry.range.from) out.new }
 {
+    if let Some(origin) = origin_of_one(f, t, a, earlier) {
+        return row_of_square(origin, t, a, earlier, out);
+    }
     let kind = kind_found(earlier, a, t);
     if !takes(f, kind, t) {
         return false;
@@ -57,6 +152,9 @@ fn row_of_two(
     ensures { IsTrue result → Computes (Two f t steps.0 steps.1) (result_type2 f t) (rows_before earlier.entry.kernel.code.now earlier.entry.kernel.rows.now earlier.entry.bytes.now earlier.entry.number)
         (loads_along earlier.entry.kernel.inputs.lays.now earlier.entry.kernel.inputs.ins.now earlier.entry.kernel.inputs.dims.now earlier.entry.range.from) out.new }
 {
+    if let Some(origin) = origin_of_two(f, t, steps, earlier) {
+        return row_of_product(origin, t, steps, earlier, out);
+    }
     let (a, b) = steps;
     let first = literal_at(earlier.kernel.code, a, t);
     let second = literal_at(earlier.kernel.code, b, t);

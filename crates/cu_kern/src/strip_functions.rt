@@ -1,6 +1,6 @@
 //! One call a function from bytes to bytes, so that the loops of each are built apart.
 ghost use Rattle.std.specs.Prelude.{length, true, false};
-ghost use Rattle.cu_kern.specs.Strips.{strip, IsCall, HasArguments, HasResults};
+ghost use Rattle.cu_kern.specs.Strips.{strip, IsCall, WidensTo, HasArguments, HasResults};
 
 use crate::by_type::call_by_type;
 use crate::calls::Call;
@@ -9,7 +9,8 @@ use crate::comparisons::{
 };
 use crate::reciprocals::divide_by_type;
 use crate::strip_loops::{
-    astype_by_types, extreme_by_steps, one_by_type, pair_by_type, select_by_type,
+    astype_by_types, extreme_by_steps, one_by_type, pair_by_type, product_by_types, select_by_type,
+    square_by_types,
 };
 use crate::strips::Strip;
 use cu_num::{Dtype, Fn1, Fn2};
@@ -26,6 +27,8 @@ pub(crate) fn call_strips(call: Call, x: Strip<'_>, y: Strip<'_>, z: Strip<'_>, 
         Call::Select(t) => select(t, x, y, z, out),
         Call::Extreme(true, t) => minimum(t, x, y, out),
         Call::Extreme(false, t) => maximum(t, x, y, out),
+        Call::Product(from, t) => product(from, t, x, y, out),
+        Call::Square(from, t) => square(from, t, x, out),
     }
 }
 
@@ -277,4 +280,22 @@ fn maximum(t: Dtype, x: Strip<'_>, y: Strip<'_>, out: &mut [u8])
     ensures { HasResults (Call.Extreme false t) (strip x.entry.bytes.now x.entry.step) (strip y.entry.bytes.now y.entry.step) (strip y.entry.bytes.now y.entry.step) out.new }
 {
     call_by_type!(extreme_by_steps, [false], t, [x, y, out])
+}
+
+#[inline(never)]
+fn product(from: Dtype, t: Dtype, x: Strip<'_>, y: Strip<'_>, out: &mut [u8])
+    requires within { WidensTo from t }
+    requires arguments { HasArguments (Call.Product from t) (strip x.bytes.now x.step) (strip y.bytes.now y.step) (strip y.bytes.now y.step) (length out.old) }
+    ensures { HasResults (Call.Product from t) (strip x.entry.bytes.now x.entry.step) (strip y.entry.bytes.now y.entry.step) (strip y.entry.bytes.now y.entry.step) out.new }
+{
+    product_by_types(from, t, x, y, out);
+}
+
+#[inline(never)]
+fn square(from: Dtype, t: Dtype, x: Strip<'_>, out: &mut [u8])
+    requires within { WidensTo from t }
+    requires arguments { HasArguments (Call.Square from t) (strip x.bytes.now x.step) (strip x.bytes.now x.step) (strip x.bytes.now x.step) (length out.old) }
+    ensures { HasResults (Call.Square from t) (strip x.entry.bytes.now x.entry.step) (strip x.entry.bytes.now x.entry.step) (strip x.entry.bytes.now x.entry.step) out.new }
+{
+    square_by_types(from, t, x, out);
 }

@@ -3,13 +3,13 @@
 ghost use Rattle.std.specs.Prelude.{◌≤◌, ◌≡◌, length};
 ghost use Rattle.cu_num.specs.Scalar.{result_type2};
 ghost use Rattle.cu_num.specs.declared.types.Dtype.TheVariants.{Bool};
-ghost use Rattle.cu_kern.specs.Strips.{strip, IsCall, HasArguments, HasResults};
+ghost use Rattle.cu_kern.specs.Strips.{strip, IsCall, WidensTo, HasArguments, HasResults};
 
-use crate::by_type::call_by_type;
+use crate::by_type::{call_by_type, call_widening};
 use crate::calls::Call;
 use crate::strips::{
     Strip, compare_long, compare_short, compare_wide, extreme_each, one_each, pair_each,
-    select_each,
+    product_each, select_each, square_each,
 };
 use cu_num::{Dtype, Fn1, Fn2};
 
@@ -225,5 +225,76 @@ fn extreme_by_last_step(least: bool, t: Dtype, x: Strip<'_>, y: Strip<'_>, out: 
         extreme_each(least, t, x, y.resting(), out);
     } else {
         extreme_each(least, t, x, y.moving(), out);
+    }
+}
+
+/// The product of numbers of a narrower type, with loops for each pair of types.
+#[inline(always)]
+pub(crate) fn product_by_types(from: Dtype, t: Dtype, x: Strip<'_>, y: Strip<'_>, out: &mut [u8])
+    requires within { WidensTo from t }
+    requires arguments { HasArguments (Call.Product from t) (strip x.bytes.now x.step) (strip y.bytes.now y.step) (strip y.bytes.now y.step) (length out.old) }
+    ensures { HasResults (Call.Product from t) (strip x.entry.bytes.now x.entry.step) (strip y.entry.bytes.now y.entry.step) (strip y.entry.bytes.now y.entry.step) out.new }
+{
+    call_widening!(
+        product_by_steps,
+        from,
+        t,
+        [x, y, out],
+        product_each(from, t, x, y, out)
+    )
+}
+
+#[inline(always)]
+fn product_by_steps(from: Dtype, t: Dtype, x: Strip<'_>, y: Strip<'_>, out: &mut [u8])
+    requires within { WidensTo from t }
+    requires arguments { HasArguments (Call.Product from t) (strip x.bytes.now x.step) (strip y.bytes.now y.step) (strip y.bytes.now y.step) (length out.old) }
+    ensures { HasResults (Call.Product from t) (strip x.entry.bytes.now x.entry.step) (strip y.entry.bytes.now y.entry.step) (strip y.entry.bytes.now y.entry.step) out.new }
+{
+    if x.step == 0 {
+        product_by_last_step(from, t, x.resting(), y, out);
+    } else {
+        product_by_last_step(from, t, x.moving(), y, out);
+    }
+}
+
+#[inline(always)]
+fn product_by_last_step(from: Dtype, t: Dtype, x: Strip<'_>, y: Strip<'_>, out: &mut [u8])
+    requires within { WidensTo from t }
+    requires arguments { HasArguments (Call.Product from t) (strip x.bytes.now x.step) (strip y.bytes.now y.step) (strip y.bytes.now y.step) (length out.old) }
+    ensures { HasResults (Call.Product from t) (strip x.entry.bytes.now x.entry.step) (strip y.entry.bytes.now y.entry.step) (strip y.entry.bytes.now y.entry.step) out.new }
+{
+    if y.step == 0 {
+        product_each(from, t, x, y.resting(), out);
+    } else {
+        product_each(from, t, x, y.moving(), out);
+    }
+}
+
+/// The square of numbers of a narrower type, with loops for each pair of types.
+#[inline(always)]
+pub(crate) fn square_by_types(from: Dtype, t: Dtype, x: Strip<'_>, out: &mut [u8])
+    requires within { WidensTo from t }
+    requires arguments { HasArguments (Call.Square from t) (strip x.bytes.now x.step) (strip x.bytes.now x.step) (strip x.bytes.now x.step) (length out.old) }
+    ensures { HasResults (Call.Square from t) (strip x.entry.bytes.now x.entry.step) (strip x.entry.bytes.now x.entry.step) (strip x.entry.bytes.now x.entry.step) out.new }
+{
+    call_widening!(
+        square_by_step,
+        from,
+        t,
+        [x, out],
+        square_each(from, t, x, out)
+    )
+}
+
+#[inline(always)]
+fn square_by_step(from: Dtype, t: Dtype, x: Strip<'_>, out: &mut [u8])
+    requires within { WidensTo from t }
+    requires arguments { HasArguments (Call.Square from t) (strip x.bytes.now x.step) (strip x.bytes.now x.step) (strip x.bytes.now x.step) (length out.old) }
+    ensures { HasResults (Call.Square from t) (strip x.entry.bytes.now x.entry.step) (strip x.entry.bytes.now x.entry.step) (strip x.entry.bytes.now x.entry.step) out.new }
+{
+    if x.step == 0 {
+        square_each(from, t, x.resting(), out);
+    } else {
+        square_each(from, t, x.moving(), out);
     }
 }

@@ -2,7 +2,7 @@
 ghost use Rattle.std.specs.Prelude.{◌≡◌, ◌+◌, ◌<◌, ◌≤◌, ◌^◌, ℕ, length};
 ghost use Rattle.cu_num.specs.Scalar.{result_type2};
 ghost use Rattle.cu_num.specs.declared.types.Dtype.TheVariants.{Bool};
-ghost use Rattle.cu_kern.specs.Strips.{strip, value_along, IsCall, HasPlace, HasArguments, HasResults, HasPart, ResultsBelow};
+ghost use Rattle.cu_kern.specs.Strips.{strip, value_along, IsCall, WidensTo, HasPlace, HasArguments, HasResults, HasPart, ResultsBelow};
 
 use crate::calls::{Call, chosen, extreme, value2};
 use cu_num::{Dtype, Fn1, Fn2, load, result1, result2, save, scalar1, size};
@@ -245,5 +245,53 @@ pub(crate) fn extreme_each(least: bool, t: Dtype, x: Strip<'_>, y: Strip<'_>, ou
     let count = out.len() / size(t) as usize;
     for at in 0..count {
         save(t, extreme_at(least, t, x, y, at), out, at);
+    }
+}
+
+/// The product of numbers of a narrower type, at one place.
+#[inline(always)]
+fn product_at(from: Dtype, t: Dtype, x: Strip<'_>, y: Strip<'_>, at: usize) -> i128
+    requires within { WidensTo from t }
+    requires place { HasPlace (Call.Product from t) (strip x.bytes.now x.step) (strip y.bytes.now y.step) (strip y.bytes.now y.step) at }
+    ensures { result ≡ value_along (Call.Product from t) (strip x.entry.bytes.now x.entry.step) (strip y.entry.bytes.now y.entry.step) (strip y.entry.bytes.now y.entry.step) at }
+{
+    let first = load(from, x.bytes, x.step * at);
+    let second = load(from, y.bytes, y.step * at);
+    value2(Fn2::Multiply, t, first, second)
+}
+
+/// The product of numbers of a narrower type: a processor has an instruction for it where it has none for the wide type.
+#[inline(always)]
+pub(crate) fn product_each(from: Dtype, t: Dtype, x: Strip<'_>, y: Strip<'_>, out: &mut [u8])
+    requires within { WidensTo from t }
+    requires arguments { HasArguments (Call.Product from t) (strip x.bytes.now x.step) (strip y.bytes.now y.step) (strip y.bytes.now y.step) (length out.old) }
+    ensures { HasResults (Call.Product from t) (strip x.entry.bytes.now x.entry.step) (strip y.entry.bytes.now y.entry.step) (strip y.entry.bytes.now y.entry.step) out.new }
+{
+    let count = out.len() / size(t) as usize;
+    for at in 0..count {
+        save(t, product_at(from, t, x, y, at), out, at);
+    }
+}
+
+/// The square of a number of a narrower type, at one place.
+#[inline(always)]
+fn square_at(from: Dtype, t: Dtype, x: Strip<'_>, at: usize) -> i128
+    requires within { WidensTo from t }
+    requires place { HasPlace (Call.Square from t) (strip x.bytes.now x.step) (strip x.bytes.now x.step) (strip x.bytes.now x.step) at }
+    ensures { result ≡ value_along (Call.Square from t) (strip x.entry.bytes.now x.entry.step) (strip x.entry.bytes.now x.entry.step) (strip x.entry.bytes.now x.entry.step) at }
+{
+    scalar1(Fn1::Square, t, load(from, x.bytes, x.step * at))
+}
+
+/// The square of numbers of a narrower type.
+#[inline(always)]
+pub(crate) fn square_each(from: Dtype, t: Dtype, x: Strip<'_>, out: &mut [u8])
+    requires within { WidensTo from t }
+    requires arguments { HasArguments (Call.Square from t) (strip x.bytes.now x.step) (strip x.bytes.now x.step) (strip x.bytes.now x.step) (length out.old) }
+    ensures { HasResults (Call.Square from t) (strip x.entry.bytes.now x.entry.step) (strip x.entry.bytes.now x.entry.step) (strip x.entry.bytes.now x.entry.step) out.new }
+{
+    let count = out.len() / size(t) as usize;
+    for at in 0..count {
+        save(t, square_at(from, t, x, at), out, at);
     }
 }

@@ -10,13 +10,13 @@ pub call_strips-requires-clause-arguments : goal.call_strips-requires-clause-arg
 call_strips-requires-clause-arguments c =
     let r = result_type1 c.args.f c.args.t in
     let n = element_count r c.args.earlier.range.count (size_of r) (length c.args.out.now) refl c.requires.room in
-    let x = c.in-Some.x in
+    let x = c.in-Some-found.x in
     let P : ℕ → Type 0 = HasPlaces c.kind_found-kind.result (strip x.bytes.now x.step) in
-    let places = subst P (sym n) c.in-Some.ensures.places in
+    let places = subst P (sym n) c.in-Some-found.ensures.places in
     record { first = places; second = places; third = places }
 
 pub returns : goal.returns
 returns c met k results room stand =
     let same = c.call_strips.auto.out in
     let below = element_below (result_type1 c.args.f c.args.t) k c.args.earlier.range.count (length c.call_strips.new.out) (same ∙ c.requires.room) room in
-    one_computed c.args.f c.args.t c.call_strips.new.out k c.args.a results _ (c.in-Some.ensures.elements k results below stand) (c.call_strips.ensures k room)
+    one_computed c.args.f c.args.t c.call_strips.new.out k c.args.a results _ (c.in-Some-found.ensures.elements k results below stand) (c.call_strips.ensures k room)

@@ -7,7 +7,7 @@ use Rattle.cu_num.proofs.ElementBytes.{element_at-written_at_same}
 use Rattle.cu_num.proofs.Wrapped.{wrapped_in_range}
 use Rattle.cu_lane.proofs.Words.{kept}
 use Rattle.cu_kern.proofs.Parts.{size_most}
-use Rattle.cu_kern.proofs.arguments.spelled.Goals as goal
+use Rattle.cu_kern.proofs.arguments.spelled_as.Goals as goal
 
 pub returns : goal.returns
 returns c range =
