@@ -2,12 +2,68 @@
 
 ghost use Rattle.std.specs.Prelude.{◌≡◌, ◌*◌, ◌%◌, ◌<◌, ◌≤◌, true, length};
 ghost use Rattle.cu_num.specs.Dtype.{size_of, IsInteger};
+ghost use Rattle.cu_num.specs.declared.types.Dtype.{Dtype};
 ghost use Rattle.cu_product.specs.Matrices.{HasProducts, numbers};
 
 use crate::column::multiply_column;
 use crate::paired::multiply_paired;
 use crate::rows::{MatrixSizes, multiply_rows};
 use cu_num::Dtype;
+
+/// A type of elements, known where loops are built.
+trait Element {
+    ghost TYPE: { Dtype };
+
+    const TYPE: Dtype;
+}
+
+impl Element for i8 {
+    ghost TYPE = { Dtype.Int8 };
+
+    const TYPE: Dtype = Dtype::Int8;
+}
+
+impl Element for i16 {
+    ghost TYPE = { Dtype.Int16 };
+
+    const TYPE: Dtype = Dtype::Int16;
+}
+
+impl Element for i32 {
+    ghost TYPE = { Dtype.Int32 };
+
+    const TYPE: Dtype = Dtype::Int32;
+}
+
+impl Element for i64 {
+    ghost TYPE = { Dtype.Int64 };
+
+    const TYPE: Dtype = Dtype::Int64;
+}
+
+impl Element for u8 {
+    ghost TYPE = { Dtype.Uint8 };
+
+    const TYPE: Dtype = Dtype::Uint8;
+}
+
+impl Element for u16 {
+    ghost TYPE = { Dtype.Uint16 };
+
+    const TYPE: Dtype = Dtype::Uint16;
+}
+
+impl Element for u32 {
+    ghost TYPE = { Dtype.Uint32 };
+
+    const TYPE: Dtype = Dtype::Uint32;
+}
+
+impl Element for u64 {
+    ghost TYPE = { Dtype.Uint64 };
+
+    const TYPE: Dtype = Dtype::Uint64;
+}
 
 /// The product of two matrices. Each type of results has a call of its own, so that its loops are built apart.
 pub(crate) fn multiply_matrices(
@@ -29,20 +85,20 @@ pub(crate) fn multiply_matrices(
 {
     match t {
         Dtype::Bool => unreachable!(),
-        Dtype::Int8 => into_int8(left_t, right_t, sizes, left, right, out),
-        Dtype::Int16 => into_int16(left_t, right_t, sizes, left, right, out),
-        Dtype::Int32 => into_int32(left_t, right_t, sizes, left, right, out),
-        Dtype::Int64 => into_int64(left_t, right_t, sizes, left, right, out),
-        Dtype::Uint8 => into_uint8(left_t, right_t, sizes, left, right, out),
-        Dtype::Uint16 => into_uint16(left_t, right_t, sizes, left, right, out),
-        Dtype::Uint32 => into_uint32(left_t, right_t, sizes, left, right, out),
-        Dtype::Uint64 => into_uint64(left_t, right_t, sizes, left, right, out),
+        Dtype::Int8 => into::<i8>(left_t, right_t, sizes, left, right, out),
+        Dtype::Int16 => into::<i16>(left_t, right_t, sizes, left, right, out),
+        Dtype::Int32 => into::<i32>(left_t, right_t, sizes, left, right, out),
+        Dtype::Int64 => into::<i64>(left_t, right_t, sizes, left, right, out),
+        Dtype::Uint8 => into::<u8>(left_t, right_t, sizes, left, right, out),
+        Dtype::Uint16 => into::<u16>(left_t, right_t, sizes, left, right, out),
+        Dtype::Uint32 => into::<u32>(left_t, right_t, sizes, left, right, out),
+        Dtype::Uint64 => into::<u64>(left_t, right_t, sizes, left, right, out),
     }
 }
 
-/// Of results of this type.
+/// Of results of this type, in loops of their own.
 #[inline(never)]
-fn into_int8(
+fn into<T: Element>(
     left_t: Dtype,
     right_t: Dtype,
     sizes: MatrixSizes,
@@ -50,154 +106,15 @@ fn into_int8(
     right: &[u8],
     out: &mut [u8],
 )
+    requires integer { IsInteger T.TYPE }
     requires some_rows { 0 < sizes.rows }
     requires some { 0 < sizes.inner }
     requires left { length left.now ≡ sizes.rows * sizes.inner * size_of left_t }
     requires right { length right.now ≡ sizes.inner * sizes.columns * size_of right_t }
-    requires out { length out.old ≡ sizes.rows * sizes.columns * size_of Dtype.Int8 }
-    ensures { HasProducts sizes (numbers left_t left.now) (numbers right_t right.now) Dtype.Int8 out.new }
+    requires out { length out.old ≡ sizes.rows * sizes.columns * size_of T.TYPE }
+    ensures { HasProducts sizes (numbers left_t left.now) (numbers right_t right.now) T.TYPE out.new }
 {
-    by_types(left_t, right_t, Dtype::Int8, sizes, left, right, out);
-}
-
-/// Of results of this type.
-#[inline(never)]
-fn into_int16(
-    left_t: Dtype,
-    right_t: Dtype,
-    sizes: MatrixSizes,
-    left: &[u8],
-    right: &[u8],
-    out: &mut [u8],
-)
-    requires some_rows { 0 < sizes.rows }
-    requires some { 0 < sizes.inner }
-    requires left { length left.now ≡ sizes.rows * sizes.inner * size_of left_t }
-    requires right { length right.now ≡ sizes.inner * sizes.columns * size_of right_t }
-    requires out { length out.old ≡ sizes.rows * sizes.columns * size_of Dtype.Int16 }
-    ensures { HasProducts sizes (numbers left_t left.now) (numbers right_t right.now) Dtype.Int16 out.new }
-{
-    by_types(left_t, right_t, Dtype::Int16, sizes, left, right, out);
-}
-
-/// Of results of this type.
-#[inline(never)]
-fn into_int32(
-    left_t: Dtype,
-    right_t: Dtype,
-    sizes: MatrixSizes,
-    left: &[u8],
-    right: &[u8],
-    out: &mut [u8],
-)
-    requires some_rows { 0 < sizes.rows }
-    requires some { 0 < sizes.inner }
-    requires left { length left.now ≡ sizes.rows * sizes.inner * size_of left_t }
-    requires right { length right.now ≡ sizes.inner * sizes.columns * size_of right_t }
-    requires out { length out.old ≡ sizes.rows * sizes.columns * size_of Dtype.Int32 }
-    ensures { HasProducts sizes (numbers left_t left.now) (numbers right_t right.now) Dtype.Int32 out.new }
-{
-    by_types(left_t, right_t, Dtype::Int32, sizes, left, right, out);
-}
-
-/// Of results of this type.
-#[inline(never)]
-fn into_int64(
-    left_t: Dtype,
-    right_t: Dtype,
-    sizes: MatrixSizes,
-    left: &[u8],
-    right: &[u8],
-    out: &mut [u8],
-)
-    requires some_rows { 0 < sizes.rows }
-    requires some { 0 < sizes.inner }
-    requires left { length left.now ≡ sizes.rows * sizes.inner * size_of left_t }
-    requires right { length right.now ≡ sizes.inner * sizes.columns * size_of right_t }
-    requires out { length out.old ≡ sizes.rows * sizes.columns * size_of Dtype.Int64 }
-    ensures { HasProducts sizes (numbers left_t left.now) (numbers right_t right.now) Dtype.Int64 out.new }
-{
-    by_types(left_t, right_t, Dtype::Int64, sizes, left, right, out);
-}
-
-/// Of results of this type.
-#[inline(never)]
-fn into_uint8(
-    left_t: Dtype,
-    right_t: Dtype,
-    sizes: MatrixSizes,
-    left: &[u8],
-    right: &[u8],
-    out: &mut [u8],
-)
-    requires some_rows { 0 < sizes.rows }
-    requires some { 0 < sizes.inner }
-    requires left { length left.now ≡ sizes.rows * sizes.inner * size_of left_t }
-    requires right { length right.now ≡ sizes.inner * sizes.columns * size_of right_t }
-    requires out { length out.old ≡ sizes.rows * sizes.columns * size_of Dtype.Uint8 }
-    ensures { HasProducts sizes (numbers left_t left.now) (numbers right_t right.now) Dtype.Uint8 out.new }
-{
-    by_types(left_t, right_t, Dtype::Uint8, sizes, left, right, out);
-}
-
-/// Of results of this type.
-#[inline(never)]
-fn into_uint16(
-    left_t: Dtype,
-    right_t: Dtype,
-    sizes: MatrixSizes,
-    left: &[u8],
-    right: &[u8],
-    out: &mut [u8],
-)
-    requires some_rows { 0 < sizes.rows }
-    requires some { 0 < sizes.inner }
-    requires left { length left.now ≡ sizes.rows * sizes.inner * size_of left_t }
-    requires right { length right.now ≡ sizes.inner * sizes.columns * size_of right_t }
-    requires out { length out.old ≡ sizes.rows * sizes.columns * size_of Dtype.Uint16 }
-    ensures { HasProducts sizes (numbers left_t left.now) (numbers right_t right.now) Dtype.Uint16 out.new }
-{
-    by_types(left_t, right_t, Dtype::Uint16, sizes, left, right, out);
-}
-
-/// Of results of this type.
-#[inline(never)]
-fn into_uint32(
-    left_t: Dtype,
-    right_t: Dtype,
-    sizes: MatrixSizes,
-    left: &[u8],
-    right: &[u8],
-    out: &mut [u8],
-)
-    requires some_rows { 0 < sizes.rows }
-    requires some { 0 < sizes.inner }
-    requires left { length left.now ≡ sizes.rows * sizes.inner * size_of left_t }
-    requires right { length right.now ≡ sizes.inner * sizes.columns * size_of right_t }
-    requires out { length out.old ≡ sizes.rows * sizes.columns * size_of Dtype.Uint32 }
-    ensures { HasProducts sizes (numbers left_t left.now) (numbers right_t right.now) Dtype.Uint32 out.new }
-{
-    by_types(left_t, right_t, Dtype::Uint32, sizes, left, right, out);
-}
-
-/// Of results of this type.
-#[inline(never)]
-fn into_uint64(
-    left_t: Dtype,
-    right_t: Dtype,
-    sizes: MatrixSizes,
-    left: &[u8],
-    right: &[u8],
-    out: &mut [u8],
-)
-    requires some_rows { 0 < sizes.rows }
-    requires some { 0 < sizes.inner }
-    requires left { length left.now ≡ sizes.rows * sizes.inner * size_of left_t }
-    requires right { length right.now ≡ sizes.inner * sizes.columns * size_of right_t }
-    requires out { length out.old ≡ sizes.rows * sizes.columns * size_of Dtype.Uint64 }
-    ensures { HasProducts sizes (numbers left_t left.now) (numbers right_t right.now) Dtype.Uint64 out.new }
-{
-    by_types(left_t, right_t, Dtype::Uint64, sizes, left, right, out);
+    by_types(left_t, right_t, T::TYPE, sizes, left, right, out);
 }
 
 /// Operands that have the type of the result are most frequent.
@@ -242,8 +159,8 @@ fn of_one_type(t: Dtype, sizes: MatrixSizes, left: &[u8], right: &[u8], out: &mu
         return;
     }
     match t {
-        Dtype::Int64 if has_pairs(sizes) => paired_int64(sizes, left, right, out),
-        Dtype::Uint64 if has_pairs(sizes) => paired_uint64(sizes, left, right, out),
+        Dtype::Int64 if has_pairs(sizes) => paired::<i64>(sizes, left, right, out),
+        Dtype::Uint64 if has_pairs(sizes) => paired::<u64>(sizes, left, right, out),
         _ => multiply_rows(t, t, t, sizes, left, right, out),
     }
 }
@@ -258,36 +175,21 @@ fn has_pairs(sizes: MatrixSizes) -> bool
     sizes.rows >= 16 && sizes.columns >= 8 && sizes.inner <= 512 && sizes.inner % 2 == 0
 }
 
-/// By pairs of inner places.
+/// By pairs of inner places, in loops of their own.
 #[inline(never)]
-fn paired_int64(sizes: MatrixSizes, left: &[u8], right: &[u8], out: &mut [u8])
+fn paired<T: Element>(sizes: MatrixSizes, left: &[u8], right: &[u8], out: &mut [u8])
+    requires integer { IsInteger T.TYPE }
     requires some_rows { 0 < sizes.rows }
     requires some { 0 < sizes.inner }
     requires few { sizes.inner ≤ 512 }
     requires even { sizes.inner % 2 ≡ 0 }
     requires columns { 8 ≤ sizes.columns }
-    requires left { length left.now ≡ sizes.rows * sizes.inner * size_of Dtype.Int64 }
-    requires right { length right.now ≡ sizes.inner * sizes.columns * size_of Dtype.Int64 }
-    requires out { length out.old ≡ sizes.rows * sizes.columns * size_of Dtype.Int64 }
-    ensures { HasProducts sizes (numbers Dtype.Int64 left.now) (numbers Dtype.Int64 right.now) Dtype.Int64 out.new }
+    requires left { length left.now ≡ sizes.rows * sizes.inner * size_of T.TYPE }
+    requires right { length right.now ≡ sizes.inner * sizes.columns * size_of T.TYPE }
+    requires out { length out.old ≡ sizes.rows * sizes.columns * size_of T.TYPE }
+    ensures { HasProducts sizes (numbers T.TYPE left.now) (numbers T.TYPE right.now) T.TYPE out.new }
 {
-    multiply_paired(Dtype::Int64, sizes, left, right, out);
-}
-
-/// By pairs of inner places.
-#[inline(never)]
-fn paired_uint64(sizes: MatrixSizes, left: &[u8], right: &[u8], out: &mut [u8])
-    requires some_rows { 0 < sizes.rows }
-    requires some { 0 < sizes.inner }
-    requires few { sizes.inner ≤ 512 }
-    requires even { sizes.inner % 2 ≡ 0 }
-    requires columns { 8 ≤ sizes.columns }
-    requires left { length left.now ≡ sizes.rows * sizes.inner * size_of Dtype.Uint64 }
-    requires right { length right.now ≡ sizes.inner * sizes.columns * size_of Dtype.Uint64 }
-    requires out { length out.old ≡ sizes.rows * sizes.columns * size_of Dtype.Uint64 }
-    ensures { HasProducts sizes (numbers Dtype.Uint64 left.now) (numbers Dtype.Uint64 right.now) Dtype.Uint64 out.new }
-{
-    multiply_paired(Dtype::Uint64, sizes, left, right, out);
+    multiply_paired(T::TYPE, sizes, left, right, out);
 }
 
 /// By the type of the right operand, whose rows are read again and again.
