@@ -3,7 +3,7 @@ use Rattle.cu_op.proofs.Members.{any_contains, bool_cases, contains_any, not_any
 use Rattle.cu_fuse.proofs.Flagged.{flags_alike}
 use Rattle.cu_fuse.proofs.ReadOnce.{earlier_read, not_before, read_earlier, reader_within, stands_at, stands_not, times, place_in}
 use Rattle.cu_fuse.specs.Choosing.{IsEarlier, IsInliningChoiceTo}
-use Rattle.cu_fuse.specs.Fused.{stands_in}
+use Rattle.cu_op.specs.Numbers.{stands_in}
 use Rattle.cu_fuse.specs.Inlining.{earlier_reads, inlining, read_count, trial, FitsOneTask, IsInliningChoice, MayBeInlined}
 use Rattle.cu_op.specs.Operation.{reads_of}
 use Rattle.cu_op.specs.PlanView.{PlanView, op_of, operation_at}

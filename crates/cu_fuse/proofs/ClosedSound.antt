@@ -13,7 +13,7 @@ use Rattle.cu_op.specs.Sound.{Sound, IsOperation}
 use Rattle.cu_op.proofs.AllStored.{all_projection}
 use Rattle.cu_op.proofs.Members.{contains_any, any_contains}
 use Rattle.cu_fuse.specs.Close.{remains, has_maker, renumbered_planned, remaining_numbers, maker_of, new_number, closed, setting_of}
-use Rattle.cu_fuse.specs.Fused.{stands_in}
+use Rattle.cu_op.specs.Numbers.{stands_in}
 use Rattle.cu_fuse.specs.Runs.{HasWriter, IsAtHand, IsNew, CanFollow, CanRun}
 use Rattle.cu_fuse.proofs.Closing.{renumbered_fits, renumbered_projection, reads_renumbered, writes_renumbered}
 use Rattle.cu_fuse.proofs.ClosedValue.{AreLeft, all_left}

@@ -13,7 +13,7 @@ use Rattle.cu_op.specs.Value.{rule}
 use Rattle.cu_op.proofs.Members.{contains_any}
 use Rattle.cu_fuse.specs.Close.{renumbered_planned, remaining_numbers, new_number, closed, setting_of, remains, has_maker}
 use Rattle.std.proofs.lemmas.Bool.{cases_Bool}
-use Rattle.cu_fuse.specs.Fused.{stands_in}
+use Rattle.cu_op.specs.Numbers.{stands_in}
 use Rattle.cu_fuse.specs.Runs.{HasWriter, CanRun, AreMade}
 use Rattle.cu_fuse.proofs.Running.{written_left, written_right}
 use Rattle.cu_fuse.proofs.Closing.{renumbered_rule, writes_renumbered}

@@ -7,8 +7,7 @@ use Rattle.std.proofs.lemmas.List.{take_more}
 use Rattle.std.proofs.lemmas.List.Elements.{All-cons, All-contains_itself, All-filter, All-head, All-tail, All-weaker, filter-append}
 use Rattle.std.proofs.lemmas.List.Sums.{count_by-le-length, length-filter, sum_by-cons}
 use Rattle.cu_shape.specs.Counts.{largest}
-use Rattle.cu_op.specs.Numbers.{number_in}
-use Rattle.cu_fuse.specs.Fused.{stands_in}
+use Rattle.cu_op.specs.Numbers.{number_in, stands_in}
 use Rattle.cu_fuse.specs.Once.{distinct}
 
 -- ---- a number in a list

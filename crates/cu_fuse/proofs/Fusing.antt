@@ -12,13 +12,13 @@ use Rattle.cu_op.specs.declared.kernel.Kernel.{Kernel}
 use Rattle.cu_op.specs.declared.operation.Op.{Op}
 use Rattle.cu_op.specs.declared.operation.Op.TheVariants.{Map}
 use Rattle.cu_op.specs.declared.operation.Planned.{Planned}
-use Rattle.cu_op.specs.Arrays.{grid_at}
+use Rattle.cu_op.specs.Arrays.{grid_at, same_grid}
 use Rattle.cu_op.specs.Operation.{reads_of, writes_of, target_of}
 use Rattle.cu_op.specs.Projection.{instruction_count}
 use Rattle.cu_op.specs.Elements.{Elements}
 use Rattle.cu_op.proofs.Members.{any_contains, contains_any}
-use Rattle.cu_fuse.specs.Fused.{SettingView, is_map, stands_in, is_reader, stands_once, same_grid, joint_op, joint, are_maps, is_between, has_one_reader, has_grid_of, is_small, may_merge, into_reader, merged_away, loaded_ops, map_inputs, merged_all, fused_ops}
-use Rattle.cu_op.specs.Numbers.{number_in}
+use Rattle.cu_fuse.specs.Fused.{SettingView, is_map, is_reader, stands_once, joint_op, joint, are_maps, is_between, has_one_reader, has_grid_of, is_small, may_merge, into_reader, merged_away, loaded_ops, map_inputs, merged_all, fused_ops}
+use Rattle.cu_op.specs.Numbers.{number_in, stands_in}
 use Rattle.cu_fuse.specs.Merge.{Joins, merged_op}
 use Rattle.cu_fuse.specs.Runs.{HasReader, CanRun, AreMade}
 use Rattle.cu_fuse.proofs.Distinct.{at_place, stands}

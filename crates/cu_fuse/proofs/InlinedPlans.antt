@@ -6,7 +6,7 @@ use Rattle.cu_fuse.proofs.Chosen.{some_reader}
 use Rattle.cu_fuse.proofs.Flagged.{alike, flag_at, flag_past, layouts_kept, long, maker_kept, read_before, StayWithin}
 use Rattle.cu_fuse.proofs.Inside.{alone, same_projection, same_reads, same_within, AreAlike}
 use Rattle.cu_fuse.proofs.ReadOnce.{place_in, read_earlier}
-use Rattle.cu_fuse.specs.Fused.{stands_in}
+use Rattle.cu_op.specs.Numbers.{stands_in}
 use Rattle.cu_fuse.specs.Inlining.{earlier_reads, inlined_by, inlining, prefix_where, trial, FitsOneTask, IsInliningChoice, MayBeInlined}
 use Rattle.cu_op.specs.Arrays.{array_at, is_inlined, maker_at, no_array, AllStored}
 use Rattle.cu_op.specs.Operation.{reads_of, IsBefore}

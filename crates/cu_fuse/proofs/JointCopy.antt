@@ -22,7 +22,8 @@ use Rattle.cu_op.specs.declared.operation.Op.TheVariants.{Copy}
 use Rattle.cu_op.specs.declared.operation.Planned.{Planned}
 use Rattle.cu_op.proofs.Members.{any_contains, contains_any}
 use Rattle.cu_fuse.specs.Copies.{are_copies, copied_array, copy_sources, has_few_tasks, has_region, is_copy_op, is_one_pass, joined_copies, joint_copy, joint_copy_op, joint_region, least_between, may_join, most_bytes}
-use Rattle.cu_fuse.specs.Fused.{SettingView, has_one_reader, is_between, is_reader, stands_in, stands_once}
+use Rattle.cu_fuse.specs.Fused.{SettingView, has_one_reader, is_between, is_reader, stands_once}
+use Rattle.cu_op.specs.Numbers.{stands_in}
 use Rattle.cu_fuse.specs.Runs.{AreMade, CanRun, HasReader, IsAtHand, IsMade, IsNew}
 use Rattle.cu_fuse.specs.Together.{put_together, Joining}
 use Rattle.cu_fuse.specs.Least.{least_region}

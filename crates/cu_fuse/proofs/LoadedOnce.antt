@@ -13,7 +13,8 @@ use Rattle.cu_op.specs.declared.operation.Op.{Op}
 use Rattle.cu_op.specs.declared.operation.Op.TheVariants.{Map}
 use Rattle.cu_op.specs.Operation.{reads_of}
 use Rattle.cu_op.specs.Projection.{instruction_count}
-use Rattle.cu_fuse.specs.Fused.{is_map, stands_in}
+use Rattle.cu_fuse.specs.Fused.{is_map}
+use Rattle.cu_op.specs.Numbers.{stands_in}
 use Rattle.cu_fuse.specs.Once.{at_places, distinct, first_like, first_load_of, loading_once, one_load, over_distinct, places, plain_map, stays, step_at}
 use Rattle.cu_fuse.proofs.Distinct.{distinct_stands, length-distinct}
 use Rattle.cu_fuse.proofs.LoadingOnce.{fewer_steps}

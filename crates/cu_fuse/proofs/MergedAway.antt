@@ -10,7 +10,8 @@ use Rattle.cu_op.specs.declared.operation.Planned.{Planned}
 use Rattle.cu_op.specs.Operation.{reads_of, writes_of}
 use Rattle.cu_op.specs.PlanView.{no_operation, operation_at}
 use Rattle.cu_fuse.specs.Close.{maker_of}
-use Rattle.cu_fuse.specs.Fused.{SettingView, into_reader, is_reader, joint, may_merge, merged_away, reader_of, stands_in}
+use Rattle.cu_fuse.specs.Fused.{SettingView, into_reader, is_reader, joint, may_merge, merged_away, reader_of}
+use Rattle.cu_op.specs.Numbers.{stands_in}
 
 module _ (s : SettingView) (a : ℕ) where
   -- the reader among the operations behind the maker

@@ -11,7 +11,8 @@ use Rattle.cu_op.proofs.Members.{contains_any}
 use Rattle.cu_op.specs.Operation.{reads_of, writes_of}
 use Rattle.cu_op.specs.PlanView.{no_operation, operation_at}
 use Rattle.cu_fuse.specs.Close.{maker_of}
-use Rattle.cu_fuse.specs.Fused.{is_reader, reader_of, stands_in}
+use Rattle.cu_fuse.specs.Fused.{is_reader, reader_of}
+use Rattle.cu_op.specs.Numbers.{stands_in}
 use Rattle.cu_fuse.specs.Runs.{HasReader}
 use Rattle.cu_fuse.specs.Together.{all_together, into_first, put_together, Joining, Test}
 use Rattle.cu_fuse.proofs.MergedAway.{StandAt}

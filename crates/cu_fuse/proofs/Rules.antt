@@ -8,11 +8,11 @@ use Rattle.std.proofs.lemmas.List.Sums.{sum_by-append, sum_by-cons}
 use Rattle.std.proofs.lemmas.Slice.Eq.{bytes_eq-Decides}
 use Rattle.cu_grid.specs.Grid.{RegularGrid}
 use Rattle.cu_op.specs.declared.operation.Planned.{Planned}
-use Rattle.cu_op.specs.Arrays.{grid_at}
+use Rattle.cu_op.specs.Arrays.{grid_at, same_grid}
 use Rattle.cu_op.specs.Operation.{reads_of, target_of}
 use Rattle.cu_op.specs.Projection.{instruction_count}
-use Rattle.cu_fuse.specs.Fused.{SettingView, has_one_reader, is_reader, joint, joint_op, may_merge, same_grid, stands_in, stands_once}
-use Rattle.cu_op.specs.Numbers.{number_in}
+use Rattle.cu_fuse.specs.Fused.{SettingView, has_one_reader, is_reader, joint, joint_op, may_merge, stands_once}
+use Rattle.cu_op.specs.Numbers.{number_in, stands_in}
 use Rattle.cu_fuse.specs.Rule.{MayMerge}
 use Rattle.cu_fuse.proofs.Fusing.{tested, grids_equal}
 

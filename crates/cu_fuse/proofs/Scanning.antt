@@ -14,8 +14,8 @@ use Rattle.cu_op.specs.declared.layout.ArrayInfo.{ArrayInfo}
 use Rattle.cu_op.specs.Operation.{reads_of, writes_of}
 use Rattle.cu_op.specs.Projection.{own_projection}
 use Rattle.cu_fuse.specs.Close.{has_maker, maker_of, remaining_from, remaining_numbers, remains}
-use Rattle.cu_fuse.specs.Fused.{has_one_reader, is_map, is_reader, map_inputs, reader_of, stands_in, stands_once}
-use Rattle.cu_op.specs.Numbers.{number_in}
+use Rattle.cu_fuse.specs.Fused.{has_one_reader, is_map, is_reader, map_inputs, reader_of, stands_once}
+use Rattle.cu_op.specs.Numbers.{number_in, stands_in}
 
 -- what is left of a list from an element on
 pub from_place : {A : Type 0} (xs : List A) (k : ℕ) (x : A) → k < length xs → x ≡ get_or xs k x → drop k xs ≡ x ∷ drop (k + 1) xs

@@ -9,8 +9,8 @@ use Rattle.cu_op.specs.declared.operation.Planned.{Planned}
 use Rattle.cu_op.specs.Arrays.{array_at, maker_at}
 use Rattle.cu_op.specs.Operation.{writes_of, renumbered}
 use Rattle.cu_op.specs.PlanView.{PlanView}
-use Rattle.cu_fuse.specs.Fused.{SettingView, stands_in, fused_ops}
-use Rattle.cu_op.specs.Numbers.{number_in}
+use Rattle.cu_fuse.specs.Fused.{SettingView, fused_ops}
+use Rattle.cu_op.specs.Numbers.{number_in, stands_in}
 
 -- ---- the arrays that are left
 

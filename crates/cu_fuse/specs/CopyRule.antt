@@ -10,7 +10,8 @@ use Rattle.cu_op.specs.Operation.{reads_of, target_of}
 use Rattle.cu_op.specs.Projection.{own_projection}
 use Rattle.cu_op.specs.declared.operation.Planned.{Planned}
 use Rattle.cu_fuse.specs.Copies.{copied_array, is_copy_op, joint_copy_op, least_between, most_bytes}
-use Rattle.cu_fuse.specs.Fused.{SettingView, stands_in}
+use Rattle.cu_fuse.specs.Fused.{SettingView}
+use Rattle.cu_op.specs.Numbers.{stands_in}
 
 -- Both are copies. The array isn't the output; the second copies it, and no operation behind it
 -- reads it. The least region of whole chunks of both fits the memory. The joint copy has no more

@@ -1,14 +1,13 @@
 -- The operations that are left when makers are merged into their readers, one array after another
 -- (this project's own rule).
-use Rattle.std.specs.Prelude.{ℕ, suc, ◌+◌, ◌==◌, ◌&&◌, nat_le, not, bytes_eq, Bool, true, false, List, [], ◌∷◌, ◌++◌, length, drop, map, Option, Some, None, option_map, unwrap_or, if◌then◌else◌}
+use Rattle.std.specs.Prelude.{ℕ, suc, ◌+◌, ◌==◌, ◌&&◌, nat_le, not, Bool, true, false, List, [], ◌∷◌, ◌++◌, length, drop, map, Option, Some, None, option_map, unwrap_or, if◌then◌else◌}
 use Rattle.std.specs.List.{list_any}
-use Rattle.cu_grid.specs.Grid.{RegularGrid}
-use Rattle.cu_op.specs.Numbers.{number_in}
+use Rattle.cu_op.specs.Numbers.{number_in, stands_in}
 use Rattle.cu_op.specs.declared.layout.ArrayInfo.{ArrayInfo}
 use Rattle.cu_op.specs.declared.operation.Op.{Op}
 use Rattle.cu_op.specs.declared.operation.Op.TheVariants.{Map}
 use Rattle.cu_op.specs.declared.operation.Planned.{Planned}
-use Rattle.cu_op.specs.Arrays.{grid_at}
+use Rattle.cu_op.specs.Arrays.{grid_at, same_grid}
 use Rattle.cu_op.specs.Operation.{reads_of, writes_of, target_of}
 use Rattle.cu_op.specs.Projection.{own_projection, instruction_count}
 use Rattle.cu_fuse.specs.Merge.{merged_op}
@@ -28,10 +27,6 @@ abbrev pub is_map : Op → Bool
 is_map (Map kernel ins out) = true
 is_map op = false
 
--- whether a number stands in a list
-abbrev pub stands_in : List ℕ → ℕ → Bool
-stands_in xs a = list_any (λ b. b == a) xs
-
 -- whether an operation reads array `a`
 abbrev pub is_reader : ℕ → Planned → Bool
 is_reader a o = stands_in (reads_of o.op) a
@@ -44,10 +39,6 @@ reader_of (o ∷ os) a = if is_reader a o then 0 else suc (reader_of os a)
 -- the number stands in the list once
 abbrev pub stands_once : List ℕ → ℕ → Bool
 stands_once xs a = stands_in xs a && not (stands_in (drop (number_in xs a + 1) xs) a)
-
--- whether two grids have the same shape and the same chunk shape
-abbrev pub same_grid : RegularGrid → RegularGrid → Bool
-same_grid g h = bytes_eq g.shape h.shape && bytes_eq g.chunk h.chunk
 
 -- the reader of array `a` with its maker merged in
 abbrev pub joint_op : SettingView → Planned → Planned → ℕ → Op

@@ -9,7 +9,7 @@ use Rattle.cu_op.specs.Operation.{reads_of, writes_one_chunk, ReadsByChunk}
 use Rattle.cu_op.specs.PlanView.{PlanView, op_of, operation_at}
 use Rattle.cu_op.specs.Projection.{instruction_count, projection}
 use Rattle.cu_op.specs.Within.{ops_within, stored_reads}
-use Rattle.cu_fuse.specs.Fused.{stands_in}
+use Rattle.cu_op.specs.Numbers.{stands_in}
 
 -- the plan in which these arrays are inlined, and no others
 abbrev pub inlining : PlanView → (ℕ → Bool) → PlanView

@@ -4,7 +4,8 @@ use Rattle.cu_op.specs.declared.operation.Planned.{Planned}
 use Rattle.cu_op.specs.Arrays.{grid_at}
 use Rattle.cu_op.specs.Operation.{reads_of, target_of}
 use Rattle.cu_op.specs.Projection.{own_projection, instruction_count}
-use Rattle.cu_fuse.specs.Fused.{SettingView, is_map, joint_op, stands_in}
+use Rattle.cu_fuse.specs.Fused.{SettingView, is_map, joint_op}
+use Rattle.cu_op.specs.Numbers.{stands_in}
 
 -- Both are maps. The array isn't the output; one input of the reader is the array, and no other of
 -- it or of the operations behind it; and it has the grid of the array that the reader makes. Both

@@ -3,7 +3,8 @@
 use Rattle.std.specs.Prelude.{ℕ, Bool, List, [], ◌∷◌, Option, Some, None, option_map, unwrap_or, if◌then◌else◌}
 use Rattle.cu_op.specs.Operation.{writes_of}
 use Rattle.cu_op.specs.declared.operation.Planned.{Planned}
-use Rattle.cu_fuse.specs.Fused.{is_reader, stands_in}
+use Rattle.cu_fuse.specs.Fused.{is_reader}
+use Rattle.cu_op.specs.Numbers.{stands_in}
 
 -- whether the maker of an array and its reader may be put together, where these operations stand
 -- behind the reader

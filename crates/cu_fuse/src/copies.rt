@@ -6,6 +6,7 @@ ghost use Rattle.cu_grid.specs.Grid.{IsGrid};
 ghost use Rattle.cu_op.specs.Arrays.{grid_at, grid_counts, AllStored};
 ghost use Rattle.cu_op.specs.Kind.Copy.{region_grid};
 ghost use Rattle.cu_op.specs.Layout.{IsArray};
+ghost use Rattle.cu_op.specs.Numbers.{stands_in};
 ghost use Rattle.cu_op.specs.Operation.{reads_of, writes_of};
 ghost use Rattle.cu_op.specs.Sound.{Sound};
 ghost use Rattle.cu_shape.specs.Index.{product};
@@ -13,7 +14,7 @@ ghost use Rattle.cu_fuse.specs.Close.{HasMadeNames};
 ghost use Rattle.cu_fuse.specs.Copies.{are_copies, copies_joined, copy_sources, has_region};
 ghost use Rattle.cu_fuse.specs.Copies.{is_copy_op, is_one_pass, joined_copies, joint_copy};
 ghost use Rattle.cu_fuse.specs.Copies.{joint_region, may_join};
-ghost use Rattle.cu_fuse.specs.Fused.{has_one_reader, stands_in};
+ghost use Rattle.cu_fuse.specs.Fused.{has_one_reader};
 ghost use Rattle.cu_fuse.specs.Runs.{CanRun, IsOverArrays};
 ghost use Rattle.cu_fuse.specs.Together.{put_together};
 

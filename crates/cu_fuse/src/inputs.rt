@@ -1,18 +1,11 @@
 //! The inputs of a map with the inputs of a maker in place of one.
 ghost use Rattle.std.specs.Prelude.{◌≡◌, ◌<◌, ◌≤◌, ◌+◌, ◌++◌, length, slice_index};
-ghost use Rattle.cu_fuse.specs.Fused.{stands_in, stands_once};
+ghost use Rattle.cu_fuse.specs.Fused.{stands_once};
 ghost use Rattle.cu_fuse.specs.Once.{distinct};
 ghost use Rattle.cu_fuse.specs.Splice.{put_in};
 
 use arrayvec::ArrayVec;
-use cu_op::number_in;
-
-/// Whether a number stands in the list.
-pub(crate) fn stands_in(numbers: &[u32], a: u32) -> bool
-    ensures { result ≡ stands_in numbers.now a }
-{
-    numbers.iter().any(|b| *b == a)
-}
+use cu_op::{number_in, stands_in};
 
 /// Whether a number stands in the list once.
 pub(crate) fn stands_once(numbers: &[u32], a: u32) -> bool

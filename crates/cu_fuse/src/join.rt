@@ -2,9 +2,10 @@
 ghost use Rattle.std.specs.Prelude.{◌≡◌, ◌<◌, ◌≤◌, ◌&&◌, ◌^◌, All, IfSome, OnSome, None, false};
 ghost use Rattle.std.specs.Prelude.{true, length};
 ghost use Rattle.cu_op.specs.Layout.{IsArray};
+ghost use Rattle.cu_op.specs.Numbers.{stands_in};
 ghost use Rattle.cu_op.specs.Operation.{reads_of, writes_of};
 ghost use Rattle.cu_op.specs.Projection.{own_projection};
-ghost use Rattle.cu_fuse.specs.Fused.{are_maps, is_small, joint, stands_in};
+ghost use Rattle.cu_fuse.specs.Fused.{are_maps, is_small, joint};
 ghost use Rattle.cu_fuse.specs.Runs.{IsOverArrays};
 
 use crate::inputs::put_in;

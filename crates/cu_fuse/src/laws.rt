@@ -3,10 +3,11 @@
 ghost use Rattle.std.specs.Prelude.{All, Contains, ◌≡◌, ◌≢◌, ◌<◌, ◌≤◌, ◌+◌, ◌++◌, [], ℕ, ℤ, List};
 ghost use Rattle.std.specs.Prelude.{Option, Some, length, ◌⊎◌, None, ◌^◌, ◌↔◌, false, true};
 ghost use Rattle.std.specs.List.{slice_get};
+ghost use Rattle.cu_op.specs.Numbers.{stands_in};
 ghost use Rattle.cu_op.specs.Operation.{renumbered, reads_of, writes_of, Fits};
 ghost use Rattle.cu_op.specs.Arrays.{AllStored, HasLayoutOf, grid_at, array_at, maker_at};
 ghost use Rattle.cu_fuse.specs.Close.{fused, fused_loading_once, HasMadeNames, HasInputsFirst};
-ghost use Rattle.cu_fuse.specs.Fused.{SettingView, is_map, may_merge, stands_in};
+ghost use Rattle.cu_fuse.specs.Fused.{SettingView, is_map, may_merge};
 ghost use Rattle.cu_fuse.specs.Merge.{Around, apart_ops, joined_ops, Joins, IsMerged};
 ghost use Rattle.cu_fuse.specs.Once.{distinct, loading_once, one_load};
 ghost use Rattle.cu_fuse.specs.Rule.{MayMerge};

@@ -2,19 +2,18 @@
 ghost use Rattle.std.specs.Prelude.{◌≡◌, ◌<◌, ◌≤◌, ◌&&◌, ◌^◌, All, IfOk, IfSome, OnOk, OnSome};
 ghost use Rattle.std.specs.Prelude.{None, [], false, true, length};
 ghost use Rattle.cu_op.specs.Layout.{IsArray};
-ghost use Rattle.cu_op.specs.Arrays.{grid_at};
+ghost use Rattle.cu_op.specs.Numbers.{stands_in};
 ghost use Rattle.cu_op.specs.Operation.{reads_of, writes_of};
 ghost use Rattle.cu_fuse.specs.Close.{maker_of};
 ghost use Rattle.cu_fuse.specs.Fused.{fused_ops, has_one_reader, is_map, joint, map_inputs};
-ghost use Rattle.cu_fuse.specs.Fused.{may_merge, merged_all, merged_away, reader_of, same_grid};
-ghost use Rattle.cu_fuse.specs.Fused.{stands_in};
+ghost use Rattle.cu_fuse.specs.Fused.{may_merge, merged_all, merged_away, reader_of};
 ghost use Rattle.cu_fuse.specs.Runs.{CanRun, IsOverArrays};
 
-use crate::inputs::{stands_in, stands_once};
+use crate::inputs::stands_once;
 use crate::join::join;
 use crate::once::load_all_once;
 use crate::setting::MergeSetting;
-use cu_op::{ArrayInfo, Op, Planned};
+use cu_op::{Op, Planned, same_grid, stands_in};
 use std::alloc::{AllocError, Global};
 
 /// Whether an operation reads the array.
@@ -74,17 +73,6 @@ fn has_one_reader(reader: &Planned, behind: &[Planned], a: u32) -> bool
         }
         _ => false,
     }
-}
-
-/// Whether two arrays have the same shape and the same chunk shape.
-fn same_grid(arrays: &[ArrayInfo], a: u32, b: u32) -> bool
-    requires first { a < length arrays.now }
-    requires second { b < length arrays.now }
-    ensures { result ≡ same_grid (grid_at arrays.now a) (grid_at arrays.now b) }
-{
-    let one = &arrays[a as usize].layout.grid;
-    let other = &arrays[b as usize].layout.grid;
-    one.shape().is(other.shape()) && one.chunk().is(other.chunk())
 }
 
 /// The reader of array `a` with its maker merged in, where these operations stand behind it; none

@@ -1,6 +1,6 @@
 -- A fold by labels as the first step, and its merges. What is merged stands in an array that no plan has: it has the result's axes and the
 -- axis of the labels behind them.
-use Rattle.std.proofs.Common.{◌≡◌, ℕ, zero, suc, ◌+◌, ◌-◌, ◌<◌, ◌≤◌, ◌^◌, List, [], ◌∷◌, ◌++◌, All, length, max, None, Some, slice_get, slice_index, slice_set, refl, ap, sym, ◌∙◌, subst, arith, inl, inr}
+use Rattle.std.proofs.Common.{◌≡◌, ℕ, zero, suc, ◌+◌, ◌-◌, ◌<◌, ◌≤◌, ◌^◌, List, [], ◌∷◌, ◌++◌, All, length, max, Some, slice_get, slice_index, slice_set, refl, ap, sym, ◌∙◌, subst, arith, inl, inr}
 use Rattle.std.specs.Int.{div_ceil}
 use Rattle.std.proofs.Math.ListN.{length-set}
 use Rattle.std.proofs.Math.Seq.{get_or-append_seam}
@@ -18,15 +18,13 @@ use Rattle.cu_op.specs.Grouping.{label_chunks}
 use Rattle.cu_op.specs.Matrix.{HasParts}
 use Rattle.cu_op.specs.Operation.{Fits}
 use Rattle.cu_op.specs.declared.layout.ArrayInfo.{ArrayInfo}
-use Rattle.cu_op.specs.declared.operation.Op.TheVariants.{GroupFold}
 use Rattle.cu_node.specs.Info.{IsInfo, chunk_bytes}
 use Rattle.cu_node.specs.declared.info.NodeInfo.{NodeInfo}
-use Rattle.cu_tree.specs.Needs.{product_need}
 use Rattle.cu_tree.specs.Partials.{first_partial, inner_count, product_partial, product_rounds, written_before}
 use Rattle.cu_tree.specs.declared.round.Round.{Round}
 use Rattle.cu_tree.proofs.Orders.{of_product}
 use Rattle.cu_tree.proofs.Sizes.{count_few}
-use Rattle.cu_lower_reduce.specs.Grouped.{labels_folded, grouped_steps, IsGrouped}
+use Rattle.cu_lower_reduce.specs.Grouped.{chunk_groups_step, grouped_fold, labels_folded, grouped_steps, IsGrouped}
 use Rattle.cu_lower_reduce.specs.Partials.{IsSetting}
 use Rattle.cu_lower_reduce.specs.Reductions.{merges}
 use Rattle.cu_lower_reduce.specs.Steps.{HasInfo, HaveInfos, all_made, IsGiven, IsStep, AreSteps}
@@ -152,7 +150,7 @@ pub group_fits : (arrays : List ArrayInfo) (x : Grouped) (out : ℕ) (o : NodeIn
     → HasInfo arrays x.source x.source_info → HasInfo arrays x.labels x.labels_info → HasInfo arrays out o
     → o.dtype ≡ x.made.dtype → o.dims ≡ x.made.dims ++ parts → o.chunk ≡ x.made.chunk ++ part_chunks
     → HasParts (div_ceil (axis_size x) (axis_chunk x)) parts part_chunks
-    → Fits arrays (GroupFold x.kind x.axis x.groups x.source x.labels out)
+    → Fits arrays (grouped_fold x out)
 group_fits arrays x out o parts part_chunks h l r k t d c numbered = record {
   parts = parts;
   part_chunks = part_chunks;
@@ -173,7 +171,7 @@ group_fits arrays x out o parts part_chunks h l r k t d c numbered = record {
 first_fits : (arrays : List ArrayInfo) (s : Setting) (x : Grouped) (rs : List Round) → IsGrouped x → IsGroupTurn s x rs
     → HasInfo arrays x.source x.source_info → HasInfo arrays x.labels x.labels_info
     → HasInfo arrays s.first (written_before rs (parts_of_labels x) x.made)
-    → Fits arrays (GroupFold x.kind x.axis x.groups x.source x.labels s.first)
+    → Fits arrays (grouped_fold x s.first)
 first_fits arrays s x [] h t l r o =
     group_fits arrays x s.first x.made [] [] h l r o refl (sym (append-nil x.made.dims)) (sym (append-nil x.made.chunk)) (inl (one_chunk s x h t, refl, refl))
 first_fits arrays s x (p ∷ rs) h t l r o =
@@ -185,12 +183,7 @@ group_holds : (arrays : List ArrayInfo) (s : Setting) (x : Grouped) (rs : List R
     → HasInfo arrays x.source x.source_info → HasInfo arrays x.labels x.labels_info
     → HasInfo arrays s.first (written_before rs (parts_of_labels x) x.made)
     → IsStep arrays s.reserved (x.source ∷ x.labels ∷ []) s.first s.first
-    (record {
-      op = GroupFold x.kind x.axis x.groups x.source x.labels s.first;
-      values = None;
-      made = written_before rs (parts_of_labels x) x.made;
-      need = product_need s.reserved (chunk_bytes x.source_info) (chunk_bytes x.labels_info) (chunk_bytes x.made);
-    })
+    (chunk_groups_step s x (parts_of_labels x) rs)
 group_holds arrays s x rs k h t l r o =
     let same = written_bytes rs (parts_of_labels x) x.made (same_bytes s x.kind (labels_axis x) (all_labelled x) x.made (parts_of_labels x) (grouped_chain s x k h) t.stands refl) in
     record {

@@ -1,6 +1,6 @@
 -- The elements of the arrays that a fold by labels makes. An element with another label counts as the unit, so a group is what is made of
 -- all elements of the axis.
-use Rattle.std.proofs.Common.{◌≡◌, ℕ, ℤ, zero, suc, ◌+◌, ◌-◌, ◌*◌, ◌<◌, ◌≤◌, true, false, List, [], ◌∷◌, ◌++◌, All, length, map, max, min, get_or, take, slice_index, slice_set, Option, None, Some, refl, ap, sym, ◌∙◌, subst, arith, inl, inr, ⊎_elim}
+use Rattle.std.proofs.Common.{◌≡◌, ℕ, ℤ, zero, suc, ◌+◌, ◌-◌, ◌*◌, ◌<◌, ◌≤◌, true, false, List, [], ◌∷◌, ◌++◌, All, length, map, max, min, get_or, take, slice_index, slice_set, Option, Some, refl, ap, sym, ◌∙◌, subst, arith, inl, inr, ⊎_elim}
 use Rattle.std.specs.Prelude.{option_map}
 use Rattle.std.specs.Int.{div_ceil}
 use Rattle.std.specs.List.{range_with_len}
@@ -26,18 +26,15 @@ use Rattle.cu_op.specs.Elements.{Elements}
 use Rattle.cu_op.specs.Grouping.{source_index, part_places}
 use Rattle.cu_op.specs.Value.{rule}
 use Rattle.cu_op.specs.declared.layout.ArrayInfo.{ArrayInfo}
-use Rattle.cu_op.specs.declared.operation.Op.TheVariants.{GroupFold}
 use Rattle.cu_node.specs.declared.info.NodeInfo.{NodeInfo}
-use Rattle.cu_tree.specs.Needs.{product_need}
-use Rattle.cu_tree.specs.Partials.{first_partial, inner_count, product_rounds, written_before}
+use Rattle.cu_tree.specs.Partials.{first_partial, inner_count, product_rounds}
 use Rattle.cu_tree.specs.declared.round.Round.{Round}
-use Rattle.cu_lower_reduce.specs.Grouped.{labels_folded, grouped_steps, labelled_line, IsGrouped}
+use Rattle.cu_lower_reduce.specs.Grouped.{chunk_groups_step, grouped_fold, labels_folded, grouped_steps, labelled_line, IsGrouped}
 use Rattle.cu_lower_reduce.specs.Partials.{IsSetting}
 use Rattle.cu_lower_reduce.specs.Reductions.{merges, whole_groups, reduced_indices}
 use Rattle.cu_lower_reduce.specs.Steps.{HasInfo, HaveInfos, all_made, SolveSteps}
 use Rattle.cu_lower_reduce.specs.declared.grouped.Grouped.{Grouped}
 use Rattle.cu_lower_reduce.specs.declared.step.Setting.{Setting}
-use Rattle.cu_lower_reduce.specs.declared.step.Step.{Step}
 use Rattle.cu_lower_reduce.proofs.Along.{has_enough}
 use Rattle.cu_lower_reduce.proofs.Carrying.{IsCarried, AreTaken, same_map, first_carried}
 use Rattle.cu_lower_reduce.proofs.Folds.{contains_first}
@@ -47,7 +44,6 @@ use Rattle.cu_lower_reduce.proofs.LastAxis.{axis_alone, has_own, has_other, coun
 use Rattle.cu_lower_reduce.proofs.Lasts.{last_target}
 use Rattle.cu_lower_reduce.proofs.ProductValues.{parts_of}
 use Rattle.cu_lower_reduce.proofs.Standing.{one_group}
-use Rattle.cu_node.specs.Info.{chunk_bytes}
 
 -- ---- an element as it counts in its group
 
@@ -125,7 +121,7 @@ only_places n c p pos one e =
 
 group_value : (arrays : List ArrayInfo) (at : Elements) (x : Grouped) (out : ℕ) (o : NodeInfo) (idx : List ℕ) → IsGrouped x
     → HasInfo arrays x.source x.source_info → HasInfo arrays out o → o.dtype ≡ x.made.dtype
-    → rule (GroupFold x.kind x.axis x.groups x.source x.labels out) arrays at out idx
+    → rule (grouped_fold x out) arrays at out idx
     ≡ group_of_places x (at x.source) (at x.labels) (take (length x.made.dims) idx) (chunk_places (axis_chunk x) (axis_size x) (get_or idx (length x.made.dims) 0))
 group_value arrays at x out o idx h l k t =
     let r = rank_same x h in
@@ -264,10 +260,6 @@ elements_last r first (m ∷ ns) (d ∷ cs) n c e h b =
 
 -- ---- the steps
 
-abbrev group_head : Setting → Grouped → NodeInfo → List Round → Step
-group_head s x i rs =
-    record { op = GroupFold x.kind x.axis x.groups x.source x.labels s.first; values = None; made = written_before rs i x.made; need = product_need s.reserved (chunk_bytes x.source_info) (chunk_bytes x.labels_info) (chunk_bytes x.made) }
-
 folded_value : (arrays : List ArrayInfo) (at : Elements) (s : Setting) (x : Grouped) (rs : List Round) → IsSetting s → IsGrouped x
     → IsGroupTurn s x rs
     → HasInfo arrays x.source x.source_info → HaveInfos arrays s.first (all_made (labels_folded s x (parts_of_labels x) rs))
@@ -275,13 +267,13 @@ folded_value : (arrays : List ArrayInfo) (at : Elements) (s : Setting) (x : Grou
     → (idx : List ℕ) → IsInside x.made.dims idx
     → at (last_target (labels_folded s x (parts_of_labels x) rs)) idx ≡ grouped_to x.kind x.made.dtype (slice_index idx x.axis) (labelled_line x (at x.source) (at x.labels) idx)
 folded_value arrays at s x [] k h t l o solve taken idx b =
-    solve (group_head s x (parts_of_labels x) []) s.first idx (contains_head (group_head s x (parts_of_labels x) []) []) (contains_first s.first [])
+    solve (chunk_groups_step s x (parts_of_labels x) []) s.first idx (contains_head (chunk_groups_step s x (parts_of_labels x) []) []) (contains_first s.first [])
     ∙ group_value arrays at x s.first x.made idx h l o.0 refl
     ∙ only_group x (at x.source) (at x.labels) idx h (one_chunk s x h t) b
 folded_value arrays at s x (p ∷ rs) k h t l o solve taken idx b =
     merges_value arrays at s x.kind x.source_info.dtype (labels_axis x) (all_labelled x) x.made (counted_in x (at x.source) (at x.labels)) s.first (parts_of_labels x) p rs (grouped_chain s x k h)
     (record { types = h.types; taken = counted_taken x (at x.source) (at x.labels) h taken }) t o.0 o.1
-    (solve_behind arrays at (group_head s x (parts_of_labels x) (p ∷ rs)) (merges s x.kind x.made s.first (parts_of_labels x) (p ∷ rs)) solve)
+    (solve_behind arrays at (chunk_groups_step s x (parts_of_labels x) (p ∷ rs)) (merges s x.kind x.made s.first (parts_of_labels x) (p ∷ rs)) solve)
     carried idx b
     ∙ whole_group x (at x.source) (at x.labels) h taken idx some b
   where
@@ -291,7 +283,7 @@ folded_value arrays at s x (p ∷ rs) k h t l o solve taken idx b =
     here : (q : List ℕ) → IsInside (parts_of_labels x).dims q → at s.first q
         ≡ reduced_to x.kind x.made.dtype (map (counted_in x (at x.source) (at x.labels)) (group_indices (groups_of (has_axis (labels_axis x)) (all_labelled x).chunk) (all_labelled x).dims q))
     here q m =
-        solve (group_head s x (parts_of_labels x) (p ∷ rs)) s.first q (contains_head (group_head s x (parts_of_labels x) (p ∷ rs)) (merges s x.kind x.made s.first (parts_of_labels x) (p ∷ rs))) (contains_first s.first [])
+        solve (chunk_groups_step s x (parts_of_labels x) (p ∷ rs)) s.first q (contains_head (chunk_groups_step s x (parts_of_labels x) (p ∷ rs)) (merges s x.kind x.made s.first (parts_of_labels x) (p ∷ rs))) (contains_first s.first [])
         ∙ group_value arrays at x s.first (parts_of_labels x) q h l o.0 refl
         ∙ part_carried x (at x.source) (at x.labels) h taken q some m
 

@@ -9,13 +9,13 @@ use Rattle.cu_op.specs.Operation.{Fits}
 use Rattle.cu_op.specs.Projection.{own_projection}
 use Rattle.cu_op.specs.Partial.{partial_grid, merge_groups, place_groups, chunk_groups, IsSqueezed}
 use Rattle.cu_op.specs.declared.layout.ArrayInfo.{ArrayInfo}
-use Rattle.cu_op.specs.declared.operation.Op.TheVariants.{Carry, Scan}
+use Rattle.cu_op.specs.declared.operation.Op.TheVariants.{Carry}
 use Rattle.cu_node.specs.declared.info.NodeInfo.{NodeInfo}
 use Rattle.cu_tree.specs.Needs.{fold_need, product_need}
 use Rattle.cu_tree.specs.Partials.{merged}
 use Rattle.cu_tree.specs.Sums.{sums_array, sums_count, cumulative_rounds, sums_from}
 use Rattle.cu_tree.specs.declared.round.Round.{Round}
-use Rattle.cu_lower_reduce.specs.Cumulative.{summed_step, carried_step, scanned_step, sum_merges, sum_carries, first_carry, last_carry, last_scan, summed_steps, cumulative_steps, IsCumulative}
+use Rattle.cu_lower_reduce.specs.Cumulative.{summed_step, carried_step, scanned_step, sum_merges, sum_carries, first_carry, last_carry, last_scan, summed_steps, cumulative_steps, IsCumulative, scan_of}
 use Rattle.cu_lower_reduce.specs.Partials.{IsSetting}
 use Rattle.cu_lower_reduce.specs.Steps.{grid_of, HasInfo, HaveInfos, all_made, last_made, IsGiven, IsStep, AreSteps}
 use Rattle.cu_lower_reduce.specs.declared.cumulative.Cumulative.{Cumulative}
@@ -223,7 +223,7 @@ scan_for arrays x out i (Some a) h o k = (
 )
 
 scan_fits : (arrays : List ArrayInfo) (x : Cumulative) (out : ℕ) (i : NodeInfo) (carry : Option ℕ) → IsCumulative x → HasInfo arrays x.source x.from → HasInfo arrays out x.made → IfSome carry (IsCarriedIn arrays x i)
-    → Fits arrays (Scan x.axis x.source carry out)
+    → Fits arrays (scan_of x carry out)
 scan_fits arrays x out i carry h f o a =
     let same : grid_of x.made ≡ grid_of x.from = (λ j. record { shape = h.summed.dims j; chunk = h.summed.chunk j }) in
     record {

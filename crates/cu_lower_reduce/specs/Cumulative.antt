@@ -4,6 +4,7 @@
 use Rattle.std.specs.Prelude.{ℕ, zero, suc, ◌+◌, List, [], ◌∷◌, ◌++◌, length, nat_lt, if◌then◌else◌, Option, Some, None}
 use Rattle.cu_num.specs.Dtype.{IsInteger}
 use Rattle.cu_num.specs.declared.folds.FoldKind.TheVariants.{Sum}
+use Rattle.cu_op.specs.declared.operation.Op.{Op}
 use Rattle.cu_op.specs.declared.operation.Op.TheVariants.{Fold, Merge, Carry, Scan}
 use Rattle.cu_node.specs.declared.info.NodeInfo.{NodeInfo}
 use Rattle.cu_tree.specs.Marks.{sought_axes}
@@ -46,8 +47,11 @@ carried_step s axis source sums above out = record {
 }
 
 -- the prefix sums
+abbrev pub scan_of : Cumulative → Option ℕ → ℕ → Op
+scan_of x carry out = Scan x.axis x.source carry out
+
 abbrev pub scanned_step : Cumulative → Option ℕ → ℕ → ℕ → Step
-scanned_step x carry out need = record { op = Scan x.axis x.source carry out; values = None; made = x.made; need = need }
+scanned_step x carry out need = record { op = scan_of x carry out; values = None; made = x.made; need = need }
 
 -- ---- all of them
 

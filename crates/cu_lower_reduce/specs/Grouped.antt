@@ -6,6 +6,7 @@ use Rattle.cu_num.specs.Dtype.{IsInteger}
 use Rattle.cu_num.specs.declared.folds.FoldKind.TheVariants.{Sum, Min}
 use Rattle.cu_reduce.specs.Kinds.{Accumulates}
 use Rattle.cu_reduce.specs.Labels.{Labelled, marked}
+use Rattle.cu_op.specs.declared.operation.Op.{Op}
 use Rattle.cu_op.specs.declared.operation.Op.TheVariants.{GroupFold}
 use Rattle.cu_node.specs.Info.{IsInfo, chunk_bytes}
 use Rattle.cu_node.specs.declared.info.NodeInfo.{NodeInfo}
@@ -17,15 +18,22 @@ use Rattle.cu_lower_reduce.specs.declared.grouped.Grouped.{Grouped}
 use Rattle.cu_lower_reduce.specs.declared.step.Setting.{Setting}
 use Rattle.cu_lower_reduce.specs.declared.step.Step.{Step}
 
--- the groups of each chunk, and the merges
+-- the fold by labels, into array number `out`
+abbrev pub grouped_fold : Grouped → ℕ → Op
+grouped_fold x out = GroupFold x.kind x.axis x.groups x.source x.labels out
+
+-- the groups of each chunk
+abbrev pub chunk_groups_step : Setting → Grouped → NodeInfo → List Round → Step
+chunk_groups_step s x partial rs = record {
+  op = grouped_fold x s.first;
+  values = None;
+  made = written_before rs partial x.made;
+  need = product_need s.reserved (chunk_bytes x.source_info) (chunk_bytes x.labels_info) (chunk_bytes x.made);
+}
+
+-- and the merges
 abbrev pub labels_folded : Setting → Grouped → NodeInfo → List Round → List Step
-labels_folded s x partial rs =
-    record {
-      op = GroupFold x.kind x.axis x.groups x.source x.labels s.first;
-      values = None;
-      made = written_before rs partial x.made;
-      need = product_need s.reserved (chunk_bytes x.source_info) (chunk_bytes x.labels_info) (chunk_bytes x.made);
-    } ∷ merges s x.kind x.made s.first partial rs
+labels_folded s x partial rs = chunk_groups_step s x partial rs ∷ merges s x.kind x.made s.first partial rs
 
 abbrev pub grouped_steps : Setting → Grouped → List Step
 grouped_steps s x = labels_folded s x (product_partial x.labels_info x.made) (product_rounds s.split_every x.labels_info x.made)

@@ -31,7 +31,7 @@ use Rattle.cu_op.specs.declared.layout.ArrayInfo.{ArrayInfo}
 use Rattle.cu_op.specs.declared.walks.Walk.{Walk}
 use Rattle.cu_shape.specs.Counts.{at_least_one}
 use Rattle.cu_shape.specs.Index.{IsInside, product}
-use Rattle.std.proofs.Common.{◌≡◌, ℕ, ◌<◌, List, length, All, Contains, Some, ℤ, map, ◌≤◌, ◌≢◌, ◌^◌, None, [], ◌∷◌, true}
+use Rattle.std.proofs.Common.{◌≡◌, ℕ, ◌<◌, List, length, All, Contains, Some, ℤ, map, ◌≤◌, ◌≢◌, ◌^◌, None, [], ◌∷◌, true, IsTrue}
 
 -- its arrays are among those of a plan, which stand in chunks, and it fits them
 pub record Stands (arrays : List ArrayInfo) (k : Kind) : Type 0 where
@@ -90,9 +90,11 @@ pub record Laws (k : Kind) : Type 0 where
   pub one_room : (arrays : List ArrayInfo) → k.one_chunk ≡ true → k.output_room arrays ≡ chunk_room arrays k.target
   -- of an array that it reads by the chunk each task reads one chunk
   pub one_read : (arrays : List ArrayInfo) (d : List ℕ) (w : Walk) → Stands arrays k → IsCoordinate (k.tasks arrays) d
-      → Contains (k.walks arrays (chunk_lo (k.tasks arrays).chunk d) (chunk_hi (k.tasks arrays).shape (k.tasks arrays).chunk d)) w → k.by_chunk arrays w.array
+      → Contains (k.walks arrays (chunk_lo (k.tasks arrays).chunk d) (chunk_hi (k.tasks arrays).shape (k.tasks arrays).chunk d)) w → IsTrue (k.by_chunk arrays w.array)
       → IsOneChunk (grid_at arrays w.array) w.region
-  -- they go over a grid
+  -- and the array is one of its input regions
+  pub by_chunk_room : (arrays : List ArrayInfo) (a : ℕ) → IsTrue (k.by_chunk arrays a) → chunk_room arrays a ≤ k.input_room arrays
+  -- its tasks go over a grid
   pub grid : (arrays : List ArrayInfo) → Stands arrays k → IsGrid (k.tasks arrays)
   -- each of whose chunks is made of whole chunks of what it writes
   pub nested : (arrays : List ArrayInfo) → Stands arrays k → All (λ a. IsNested (grid_at arrays a) (k.tasks arrays)) k.writes
@@ -121,6 +123,8 @@ pub record Laws (k : Kind) : Type 0 where
   pub outputs_few : (arrays : List ArrayInfo) → All IsArray arrays → k.output_room arrays ≤ 2 ^ 44
   -- over arrays with other numbers
   pub renumbered : (f : ℕ → ℕ) → IsRenumbered f k (kind_of (k.renumbered f))
+  -- and with the numbers that they have
+  pub itself : (arrays : List ArrayInfo) → (kind_of (k.renumbered (λ a. a))).fits arrays → k.fits arrays
   -- a search compares an array that it reads, and writes the array of the values before that of the places
   pub compares : (array : ℕ) → k.compared ≡ Some array → Contains k.reads array
   pub stores : (array : ℕ) → k.stored ≡ Some array → k.writes ≡ array ∷ k.target ∷ []

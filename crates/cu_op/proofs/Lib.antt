@@ -2,6 +2,7 @@ pub mod NewNumbers
 pub mod AlongAxis
 pub mod Alike
 pub mod Members
+pub mod ByChunk
 pub mod KernelRanges
 pub mod WalksOf
 pub mod Results

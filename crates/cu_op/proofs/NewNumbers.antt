@@ -30,6 +30,15 @@ bool_same a b c d there back = elim (eqb_tells a b) [
   | inr p ↦ elim (eqb_tells c d) [ inl q ↦ absurd (p.1 (back q.1)) | inr q ↦ p.0 ∙ sym q.0 ]
 ]
 
+-- arrays with the numbers that they have
+pub mapped_itself : (xs : List ℕ) → map (λ a. a) xs ≡ xs
+mapped_itself [] = refl
+mapped_itself (x ∷ xs) = ap (λ (rest : List ℕ). x ∷ rest) (mapped_itself xs)
+
+pub optional_itself : (o : Option ℕ) → option_map (λ a. a) o ≡ o
+optional_itself None = refl
+optional_itself (Some a) = refl
+
 -- what an array gives, where the list of arrays is renumbered
 pub given_same : (f : ℕ → ℕ) (o : Option ℕ) (g h : ℕ → Option ℤ) → ((a : ℕ) → o ≡ Some a → g (f a) ≡ h a) → option_and_then g (option_map f o) ≡ option_and_then h o
 given_same f None g h e = refl

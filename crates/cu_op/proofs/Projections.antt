@@ -7,19 +7,18 @@ use Rattle.cu_op.proofs.Members.{only_member}
 use Rattle.cu_op.proofs.Plans.{inner_kind}
 use Rattle.cu_op.specs.Arrays.{chunk_room, is_inlined, maker_at}
 use Rattle.cu_op.specs.Needs.{inner_ops, plan_over, within_maker, IsCountable}
-use Rattle.cu_op.specs.Operation.{reads_of, target_of, IsReadable, ReadsByChunk}
+use Rattle.cu_op.specs.Operation.{reads_of, target_of, IsReadable}
 use Rattle.cu_op.specs.PlanView.{PlanView, op_of}
 use Rattle.cu_op.specs.Projection.{input_room, instruction_count, output_room, projection, scratch_room}
 use Rattle.cu_op.specs.Sound.{Sound}
 use Rattle.cu_op.specs.Within.{made_by, maker_op, ops_deep, ops_within}
 use Rattle.cu_op.specs.declared.layout.ArrayInfo.{ArrayInfo}
 use Rattle.cu_op.specs.declared.operation.Op.{Op}
-use Rattle.cu_op.specs.declared.operation.Op.TheVariants.{Map, Fold, PairFold, Scan, GroupFold}
 use Rattle.cu_shape.specs.Counts.{largest}
 use Rattle.std.proofs.Common.{◌≡◌, ℕ, zero, suc, ◌+◌, ◌*◌, ◌<◌, ◌≤◌, true, List, [], ◌∷◌, length, map, Contains, Option, None, Some, refl, ap, sym, ◌∙◌, subst, arith, if◌then◌else◌}
 use Rattle.std.proofs.lemmas.List.{map-append}
 use Rattle.std.proofs.lemmas.List.Elements.{All-contains}
-use Rattle.std.proofs.lemmas.List.Sums.{get_or-le-sum_by, sum_by-append, sum_by-cons}
+use Rattle.std.proofs.lemmas.List.Sums.{sum_by-append, sum_by-cons}
 use Rattle.std.specs.List.{flat_map}
 use Rattle.std.specs.Prelude.{sum_by}
 
@@ -89,19 +88,6 @@ inner_greatest f g (x ∷ xs) a (suc i, l, e) =
     let rest = inner_greatest f g xs a (i, (let b : suc i < suc (length xs) = l in omega arith), e) in
     omega (arith, all, rest)
 
--- what is read by the chunk is an input region
-pub chunk_input : (op : Op) (arrays : List ArrayInfo) (a : ℕ) → ReadsByChunk arrays op a
-    → chunk_room arrays a ≤ input_room arrays op
-chunk_input (Map kernel ins out) arrays a ((i, l, e), same) =
-    subst (λ (b : ℕ). chunk_room arrays b ≤ sum_by (chunk_room arrays) ins.items) e (get_or-le-sum_by (chunk_room arrays) ins.items i a l)
-chunk_input (Fold kind axes source out) arrays a e = subst (λ (b : ℕ). chunk_room arrays b ≤ chunk_room arrays source) (sym e) (omega arith)
-chunk_input (PairFold least axis source values out) arrays a e = subst (λ (b : ℕ). chunk_room arrays b ≤ chunk_room arrays source) (sym e) (omega arith)
-chunk_input (Scan axis source carry out) arrays a e =
-    subst (λ (b : ℕ). chunk_room arrays b ≤ input_room arrays (Scan axis source carry out)) (sym e) (omega arith)
-chunk_input (GroupFold kind axis groups source labels out) arrays a e =
-    subst (λ (b : ℕ). chunk_room arrays b ≤ chunk_room arrays source + chunk_room arrays labels) (sym e) (omega arith)
-chunk_input op arrays a h = absurd h
-
 -- an operation whose result is made where it is read needs no more than what reads it
 pub inner_projection : (p : PlanView) (j k a : ℕ) → Sound p → k < length p.ops
     → Contains (reads_of (op_of p k)) a → is_inlined p.arrays a ≡ true → maker_at p.arrays a ≡ Some j
@@ -114,7 +100,7 @@ inner_projection p j k a s h read inner made =
     let target : target_of (op_of p j) ≡ a =
     only_member (target_of (op_of p j)) a (subst (λ (ws : List ℕ). Contains ws a) ((laws_of (op_of p j)).one_written one) (s.makers a j readable.0 made).1) in
     let result : output_room arrays (op_of p j) ≡ chunk_room arrays a = (laws_of (op_of p j)).one_room arrays one ∙ ap (chunk_room arrays) target in
-    let region = chunk_input op arrays a ((s.inlined a readable.0 inner).reader k h read) in
+    let region = (laws_of op).by_chunk_room arrays a ((s.inlined a readable.0 inner).reader k h read) in
     let own : inner_ops p a ≡ ops_within p j = rw inner (ap (within_maker p) made) in
     let opened = within_opened p (ordered p s) k h in
     let rest = flat_map (inner_ops p) (reads_of op) in

@@ -1,5 +1,5 @@
 -- The arrays of a plan by their numbers. Past the end stands an array that means nothing.
-use Rattle.std.specs.Prelude.{◌≡◌, ℕ, pos, Bool, false, List, [], All, Option, None, slice_index_or}
+use Rattle.std.specs.Prelude.{◌≡◌, ℕ, ◌&&◌, bytes_eq, pos, Bool, false, List, [], All, Option, None, slice_index_or}
 use Rattle.cu_num.specs.declared.types.Dtype.{Dtype}
 use Rattle.cu_num.specs.declared.types.Dtype.TheVariants as types
 use Rattle.cu_num.specs.declared.layout.Encoding.TheVariants.{Plain}
@@ -28,6 +28,10 @@ layout_at arrays a = layout_view (array_at arrays a).layout
 
 abbrev pub grid_at : List ArrayInfo → ℕ → RegularGrid
 grid_at arrays a = (array_at arrays a).layout.grid
+
+-- whether two grids have the same shape and the same chunk shape
+abbrev pub same_grid : RegularGrid → RegularGrid → Bool
+same_grid g h = bytes_eq g.shape h.shape && bytes_eq g.chunk h.chunk
 
 abbrev pub type_at : List ArrayInfo → ℕ → Dtype
 type_at arrays a = (array_at arrays a).layout.dtype

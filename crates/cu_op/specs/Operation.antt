@@ -4,7 +4,7 @@ use Rattle.cu_op.specs.Form.{Form}
 use Rattle.cu_op.specs.Kinds.{kind_of}
 use Rattle.cu_op.specs.declared.layout.ArrayInfo.{ArrayInfo}
 use Rattle.cu_op.specs.declared.operation.Op.{Op}
-use Rattle.std.specs.Prelude.{◌≡◌, ℕ, ◌<◌, ◌≤◌, Bool, List, length, Option, None, Some}
+use Rattle.std.specs.Prelude.{◌≡◌, ℕ, ◌<◌, ◌≤◌, Bool, List, length, Option, None, Some, IsTrue}
 
 -- the arrays that it reads, in order, and those that it writes
 abbrev pub reads_of : Op → List ℕ
@@ -22,8 +22,11 @@ abbrev pub writes_one_chunk : Op → Bool
 writes_one_chunk op = (kind_of op).one_chunk
 
 -- each of its tasks reads one chunk of the array, and no two the same
+abbrev pub reads_by_chunk : List ArrayInfo → Op → ℕ → Bool
+reads_by_chunk arrays op a = (kind_of op).by_chunk arrays a
+
 abbrev pub ReadsByChunk : List ArrayInfo → Op → ℕ → Type 0
-ReadsByChunk arrays op a = (kind_of op).by_chunk arrays a
+ReadsByChunk arrays op a = IsTrue (reads_by_chunk arrays op a)
 
 -- an operation fits its arrays; the partial results that a merge reads have the type of its own
 abbrev pub Fits : List ArrayInfo → Op → Type 0

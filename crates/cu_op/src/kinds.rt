@@ -7,7 +7,8 @@ ghost use Rattle.cu_op.specs.Cells.{task_grid};
 ghost use Rattle.cu_op.specs.KindText.{kind_text};
 ghost use Rattle.cu_op.specs.Kinds.{ReducesToValues, ReducesToPlaces};
 ghost use Rattle.cu_op.specs.Numbers.{number_in};
-ghost use Rattle.cu_op.specs.Operation.{Fits, reads_of, writes_of, target_of, renumbered, compared_array, value_array};
+ghost use Rattle.cu_op.specs.Operation.{Fits, reads_by_chunk, reads_of, writes_of, target_of};
+ghost use Rattle.cu_op.specs.Operation.{compared_array, renumbered, value_array, writes_one_chunk};
 ghost use Rattle.cu_op.specs.Projection.{input_room, output_room, instruction_count};
 ghost use Rattle.cu_op.specs.Walks.{region_walks};
 
@@ -25,9 +26,9 @@ use self::pull::{same_pull, whole_walks};
 use crate::copies::same_list;
 use crate::groups::{GroupedAxes, chunk_walk, merge_walk};
 use crate::kernel::Kernel;
-use crate::layout::ArrayInfo;
+use crate::layout::{ArrayInfo, same_grid};
 use crate::memory::{bytes_of, chunk_room, rooms, value_room};
-use crate::numbers::{new_number, new_option, renumber_both, renumber_inputs};
+use crate::numbers::{new_number, new_option, renumber_both, renumber_inputs, stands_in};
 use crate::operation::Op;
 use crate::walks::Walk;
 use arrayvec::{ArrayString, ArrayVec};
@@ -92,6 +93,42 @@ impl Op {
             | Op::Carry { out, .. }
             | Op::Scan { out, .. }
             | Op::GroupFold { out, .. } => *out,
+        }
+    }
+
+    /// Whether each of its tasks writes one chunk, and nothing else.
+    pub fn writes_one_chunk(&self) -> bool
+        ensures { result ≡ writes_one_chunk self.now }
+    {
+        match self {
+            Op::Map { .. }
+            | Op::Pull { .. }
+            | Op::Fold { .. }
+            | Op::Merge { .. }
+            | Op::Mul { .. }
+            | Op::Scan { .. }
+            | Op::GroupFold { .. } => true,
+            Op::Copy { .. } | Op::PairFold { .. } | Op::PairMerge { .. } | Op::Carry { .. } => {
+                false
+            }
+        }
+    }
+
+    /// Whether each of its tasks reads one chunk of the array.
+    pub fn reads_by_chunk(&self, arrays: &[ArrayInfo], array: u32) -> bool
+        requires array { array < length arrays.now }
+        requires target { target_of self.now < length arrays.now }
+        ensures { result ≡ reads_by_chunk arrays.now self.now array }
+    {
+        match self {
+            Op::Map { ins, out, .. } => {
+                stands_in(ins.as_slice(), array) && same_grid(arrays, array, *out)
+            }
+            Op::Fold { source, .. }
+            | Op::PairFold { source, .. }
+            | Op::Scan { source, .. }
+            | Op::GroupFold { source, .. } => array == *source,
+            _ => false,
         }
     }
 

@@ -1,6 +1,6 @@
 ghost use Rattle.std.specs.Prelude.{◌≡◌, ◌<◌, length};
 ghost use Rattle.cu_grid.specs.Grid.{IsGrid};
-ghost use Rattle.cu_op.specs.Arrays.{grid_at};
+ghost use Rattle.cu_op.specs.Arrays.{grid_at, same_grid};
 
 use cu_grid::Grid;
 use cu_num::{Dtype, Encoding, Endian};
@@ -43,4 +43,15 @@ pub(crate) fn grid_of(arrays: &[ArrayInfo], array: u32) -> Grid
     let grid = arrays[array as usize].layout.grid;
     let _kept = grid.shape();
     grid
+}
+
+/// Whether two arrays have the same shape and the same chunk shape.
+pub fn same_grid(arrays: &[ArrayInfo], a: u32, b: u32) -> bool
+    requires first { a < length arrays.now }
+    requires second { b < length arrays.now }
+    ensures { result ≡ same_grid (grid_at arrays.now a) (grid_at arrays.now b) }
+{
+    let one = &arrays[a as usize].layout.grid;
+    let other = &arrays[b as usize].layout.grid;
+    one.shape().is(other.shape()) && one.chunk().is(other.chunk())
 }

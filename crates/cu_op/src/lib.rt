@@ -28,10 +28,10 @@ pub use laws::{
     all_stored_law, chunk_law, inlined_law, inner_law, input_cells_law, input_law, key_law,
     one_map_law, projection_law, range_law, ready_law, region_law, task_law, value_law,
 };
-pub use layout::{ArrayInfo, Layout};
+pub use layout::{ArrayInfo, Layout, same_grid};
 pub use memory::{chunk_room, own_projection, scratch_room};
 pub use needs::steps_within;
-pub use numbers::{new_number, number_in};
+pub use numbers::{new_number, number_in, stands_in};
 pub use operation::{Op, Planned};
 pub use plan::Plan;
 pub use schedule::{

@@ -1,6 +1,6 @@
 //! Arrays that are numbered anew: each gets its place in a list.
 ghost use Rattle.std.specs.Prelude.{◌≡◌, ◌<◌, ◌≤◌, ◌^◌, length, map, option_map};
-ghost use Rattle.cu_op.specs.Numbers.{number_in};
+ghost use Rattle.cu_op.specs.Numbers.{number_in, stands_in};
 
 use arrayvec::ArrayVec;
 
@@ -17,6 +17,13 @@ pub fn number_in(numbers: &[u32], a: u32) -> usize
         place += 1;
     }
     place
+}
+
+/// Whether a number stands in the list.
+pub fn stands_in(numbers: &[u32], a: u32) -> bool
+    ensures { result ≡ stands_in numbers.now a }
+{
+    numbers.iter().any(|b| *b == a)
 }
 
 /// The new number of an array.

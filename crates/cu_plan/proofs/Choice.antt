@@ -14,7 +14,7 @@ use Rattle.cu_op.specs.Operation.{reads_of}
 use Rattle.cu_op.specs.PlanView.{PlanView, op_of, operation_at}
 use Rattle.cu_op.specs.declared.layout.ArrayInfo.{ArrayInfo}
 use Rattle.cu_op.specs.declared.operation.Planned.{Planned}
-use Rattle.cu_fuse.specs.Fused.{stands_in}
+use Rattle.cu_op.specs.Numbers.{stands_in}
 use Rattle.cu_fuse.proofs.ChosenRooms.{fits_told, told_fits}
 use Rattle.cu_fuse.specs.Inlining.{inlined_by, inlining, prefix_where, read_count, trial, FitsOneTask, IsInlinedOf, IsInliningChoice, MayBeInlined}
 use Rattle.cu_fuse.specs.Rooms.{fits_one_task}

@@ -26,12 +26,14 @@ use Rattle.cu_op.specs.Reductions.{source_coord}
 use Rattle.cu_op.specs.declared.cells.Cell.{Cell}
 use Rattle.cu_op.specs.declared.layout.ArrayInfo.{ArrayInfo}
 use Rattle.cu_op.specs.declared.operation.Op.{Op}
-use Rattle.cu_op.specs.declared.operation.Op.TheVariants.{Map, Pull, Copy, Fold, Merge, PairFold, PairMerge, Mul, Carry, Scan, GroupFold}
+use Rattle.cu_op.specs.declared.operation.Op.TheVariants.{Map, Fold, PairFold, Scan, GroupFold}
+use Rattle.cu_op.proofs.ByChunk.{alike_told, told_equal}
 use Rattle.cu_op.proofs.CellsOfTasks.{map_contains, same_array, same_coord}
 use Rattle.cu_op.proofs.Filled.{contains_mapped}
 use Rattle.cu_op.proofs.Kind.{Stands}
 use Rattle.cu_op.proofs.Members.{bool_cases, only_member}
 use Rattle.cu_op.proofs.ReducedBoxes.{squeezed_counts}
+use Rattle.cu_op.proofs.Results.{not_one}
 use Rattle.cu_origin.specs.Pull.{has_axis}
 use Rattle.cu_reduce.specs.Places.{is_sought}
 use Rattle.cu_reduce.specs.Groups.{Groups, group_counts, groups_from, groups_of}
@@ -386,24 +388,25 @@ module _ (arrays : List ArrayInfo) (a : ℕ) (coord : List ℕ) (here : IsCoordi
 
   pub one_region : (op : Op) → Stands arrays (kind_of op) → ReadsByChunk arrays op a → ((others : List ℕ) → reads_of op ≡ a ∷ others → Contains others a → ⊥) → OneRegion arrays op at
   one_region (Map kernel ins out) s by once =
-      let ok = s.grids a (All-contains (λ b. b < length arrays) ins.items a s.reads by.0) in
+      let alike = alike_told ins.items a (grid_at arrays a) (grid_at arrays out) by in
+      let ok = s.grids a (All-contains (λ b. b < length arrays) ins.items a s.reads alike.0) in
       let f : List ℕ → ℕ → Cell = λ e b. cell b (back (grid_at arrays b).shape e) in
-      by_coordinate arrays (Map kernel ins out) at coord (subst (λ (g : RegularGrid). IsCoordinate g coord) by.1 here)
-      (subst (Contains (map (f coord) ins.items)) (ap (cell a) (back_own (grid_at arrays a) coord ok here)) (map_contains (f coord) ins.items a by.0))
+      by_coordinate arrays (Map kernel ins out) at coord (subst (λ (g : RegularGrid). IsCoordinate g coord) alike.1 here)
+      (subst (Contains (map (f coord) ins.items)) (ap (cell a) (back_own (grid_at arrays a) coord ok here)) (map_contains (f coord) ins.items a alike.0))
       (λ e at_e h.
       let (b, among, is) = contains_mapped (f e) ins.items at h in
       let same : b ≡ a = same_array (f e b) at is in
       let read : back (grid_at arrays b).shape e ≡ coord = same_coord (f e b) at is in
-      let own : back (grid_at arrays a).shape e ≡ e = back_own (grid_at arrays a) e ok (subst (λ (g : RegularGrid). IsCoordinate g e) (sym by.1) at_e) in
+      let own : back (grid_at arrays a).shape e ≡ e = back_own (grid_at arrays a) e ok (subst (λ (g : RegularGrid). IsCoordinate g e) (sym alike.1) at_e) in
       sym own ∙ ap (λ (x : ℕ). back (grid_at arrays x).shape e) (sym same) ∙ read)
   one_region (Fold kind axes source out) s by once =
-      of_source (Fold kind axes source out) source by
+      of_source (Fold kind axes source out) source (told_equal a source by)
       (folded_region arrays (Fold kind axes source out) (has_axis axes) source out (s.grids source (s.reads 0 0 (omega arith))) s.fits.result coord refl (λ c. refl))
   one_region (PairFold least axis source values out) s by once =
-      of_source (PairFold least axis source values out) source by
+      of_source (PairFold least axis source values out) source (told_equal a source by)
       (folded_region arrays (PairFold least axis source values out) (is_sought axis) source out (s.grids source (s.reads 0 0 (omega arith))) s.fits.1.result coord refl (λ c. refl))
   one_region (Scan axis source carry out) s by once =
-      of_source (Scan axis source carry out) source by
+      of_source (Scan axis source carry out) source (told_equal a source by)
       (λ there.
       by_coordinate arrays (Scan axis source carry out) (cell source coord) coord (subst (λ (g : RegularGrid). IsCoordinate g coord) (sym s.fits.grid) there)
       (Contains-append_left (chunk_where arrays source coord) (carried_chunk arrays carry coord) (cell source coord) (where_there arrays source coord there))
@@ -413,12 +416,8 @@ module _ (arrays : List ArrayInfo) (a : ℕ) (coord : List ℕ) (here : IsCoordi
         | inr other ↦ absurd (not_carried arrays _ source out carry e coord s.fits.carried other)
       ]))
   one_region (GroupFold kind axis groups source labels out) s by once =
-      of_source (GroupFold kind axis groups source labels out) source by
+      let same = told_equal a source by in
+      of_source (GroupFold kind axis groups source labels out) source same
       (grouped_once arrays kind axis groups source labels out (s.grids source (s.reads 0 0 (omega arith))) s.fits
-      (λ same. once (labels ∷ []) (ap (λ (x : ℕ). x ∷ labels ∷ []) (sym by)) (0, omega arith, same ∙ sym by)) coord)
-  one_region (Pull pull ins out) s by once = absurd by
-  one_region (Copy region source out) s by once = absurd by
-  one_region (Merge kind axis group source out) s by once = absurd by
-  one_region (PairMerge least axis group value_source place_source values out) s by once = absurd by
-  one_region (Mul left right out) s by once = absurd by
-  one_region (Carry axis group sums above out) s by once = absurd by
+      (λ twice. once (labels ∷ []) (ap (λ (x : ℕ). x ∷ labels ∷ []) (sym same)) (0, omega arith, twice ∙ sym same)) coord)
+  one_region op s by once = absurd (not_one by)

@@ -2,29 +2,15 @@
 -- rule): what operations read is gone over in order. That these arrays are those which the rule
 -- chooses, `merged_arrays_law` says.
 use Rattle.std.specs.Prelude.{ℕ, ◌+◌, ◌==◌, ◌&&◌, not, Bool, false, List, [], ◌∷◌, ◌++◌, map, Option, Some, None, if◌then◌else◌}
-use Rattle.cu_op.specs.Arrays.{grid_at, maker_at}
-use Rattle.cu_op.specs.Operation.{reads_of, writes_one_chunk}
+use Rattle.cu_op.specs.Arrays.{maker_at}
+use Rattle.cu_op.specs.Numbers.{stands_in}
+use Rattle.cu_op.specs.Operation.{reads_by_chunk, reads_of, writes_one_chunk}
 use Rattle.cu_op.specs.PlanView.{PlanView, op_of}
-use Rattle.cu_op.specs.declared.layout.ArrayInfo.{ArrayInfo}
-use Rattle.cu_op.specs.declared.operation.Op.{Op}
-use Rattle.cu_op.specs.declared.operation.Op.TheVariants.{Map, Fold, PairFold, Scan, GroupFold}
 use Rattle.cu_op.specs.declared.operation.Planned.{Planned}
-use Rattle.cu_fuse.specs.Fused.{same_grid, stands_in}
 use Rattle.cu_fuse.specs.Inlining.{inlined_by, inlining, read_count}
 use Rattle.cu_fuse.specs.Rooms.{fits_one_task}
 
 -- ---- the tests of the rule
-
--- each task of an operation reads one chunk of the array: an input of a map with the grid of its
--- result, or what is reduced, searched or summed a chunk at a time
-abbrev pub reads_by_chunk : List ArrayInfo → Op → ℕ → Bool
-reads_by_chunk arrays (Map kernel ins out) a =
-    stands_in ins.items a && same_grid (grid_at arrays a) (grid_at arrays out)
-reads_by_chunk arrays (Fold kind axes source out) a = a == source
-reads_by_chunk arrays (PairFold least axis source values out) a = a == source
-reads_by_chunk arrays (Scan axis source carry out) a = a == source
-reads_by_chunk arrays (GroupFold kind axis groups source labels out) a = a == source
-reads_by_chunk arrays op a = false
 
 -- an operation makes the array, each of whose tasks writes one chunk of it and nothing else
 abbrev pub is_made_by_chunk : PlanView → Option ℕ → Bool

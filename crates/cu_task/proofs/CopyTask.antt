@@ -1,4 +1,5 @@
 -- A task of a copy: the one region that it reads.
+use Rattle.cu_op.proofs.Results.{not_one}
 use Rattle.cu_op.specs.Chunks.{walk}
 use Rattle.cu_op.specs.Operation.{ReadsByChunk}
 use Rattle.cu_op.specs.PlanView.{PlanView, op_of}
@@ -20,7 +21,7 @@ use Rattle.std.specs.Prelude.{slice_index_or, sum_by}
 
 -- it reads no array by chunks
 pub copies_whole : (arrays : List ArrayInfo) (op : Op) → IsCopy op → (a : ℕ) → ReadsByChunk arrays op a → ⊥
-copies_whole arrays (Copy region source out) is a h = h
+copies_whole arrays (Copy region source out) is a h = not_one h
 copies_whole arrays op is a h = absurd is
 
 -- its region, which is read as it is

@@ -1,5 +1,5 @@
 -- A kernel without its last step, where this converts what the step before it gives.
-use Rattle.std.proofs.Common.{◌≡◌, ◌≤◌, ◌<◌, ◌+◌, ◌-◌, ℕ, zero, suc, ℤ, List, [], ◌∷◌, ◌++◌, length, take, get_or, Option, None, Some, option_map, refl, sym, ap, ◌∙◌, subst, arith, length-append, add-one}
+use Rattle.std.proofs.Common.{◌≡◌, ◌+◌, ◌-◌, ℕ, ℤ, List, [], ◌∷◌, ◌++◌, length, take, get_or, Option, None, Some, option_map, refl, sym, ap, ◌∙◌, subst, arith, length-append}
 use Rattle.std.specs.Option.{option_and_then}
 use Rattle.std.specs.List.{slice_get}
 use Rattle.std.proofs.lemmas.List.{length-take-le, take_all, take_more}
@@ -12,7 +12,7 @@ use Rattle.cu_num.specs.declared.functions.Fn1.{Fn1}
 use Rattle.cu_num.specs.declared.functions.Fn1.TheVariants.{Astype}
 use Rattle.cu_num.specs.declared.types.Dtype.{Dtype}
 use Rattle.cu_op.specs.Kernel.{instruction_value, kernel_value, last_of, results_from}
-use Rattle.cu_op.specs.KernelTypes.{GivesOperand, KernelFits, Operand, Typed}
+use Rattle.cu_op.specs.KernelTypes.{KernelFits, Operand, Typed}
 use Rattle.cu_op.specs.declared.kernel.Instr.{Instr}
 use Rattle.cu_op.specs.declared.kernel.Instr.TheVariants.{One}
 use Rattle.cu_task.specs.Strips.{GivesSame, GivesType, IsConversion, IsHeldBy, IsNumberOf}

@@ -1,5 +1,5 @@
 -- A task of a fold: the region that it reads, its results, and what the results are that are made of it.
-use Rattle.std.proofs.Common.{◌≡◌, ◌<◌, ◌≤◌, ◌*◌, ◌^◌, ℕ, List, [], length, map, sym, ap, ◌∙◌, subst, refl, arith}
+use Rattle.std.proofs.Common.{◌≡◌, ◌<◌, ◌≤◌, ◌*◌, ◌^◌, ℕ, List, [], ◌∷◌, None, length, map, sym, ap, ◌∙◌, subst, refl, arith}
 use Rattle.std.specs.Prelude.{slice_index_or}
 use Rattle.cu_codec.proofs.Shared.{few_elements}
 use Rattle.cu_fold.specs.Strips.{fold_groups, result_sizes}
@@ -15,11 +15,12 @@ use Rattle.cu_op.proofs.TaskCells.{fit_of}
 use Rattle.cu_op.specs.Arrays.{grid_at, type_at}
 use Rattle.cu_op.specs.Cells.{regions_of, task_lo, task_hi}
 use Rattle.cu_op.specs.Chunks.{walk}
-use Rattle.cu_op.specs.Operation.{target_of}
+use Rattle.cu_op.specs.Operation.{target_of, value_array}
 use Rattle.cu_op.specs.PlanView.{PlanView}
 use Rattle.cu_op.specs.Sound.{Sound}
 use Rattle.cu_op.specs.TaskView.{TaskView, task_op, walk_at}
 use Rattle.cu_op.specs.Walks.{input_walks}
+use Rattle.cu_op.specs.declared.layout.ArrayInfo.{ArrayInfo}
 use Rattle.cu_op.specs.declared.operation.Op.{Op}
 use Rattle.cu_op.specs.declared.operation.Op.TheVariants.{Fold}
 use Rattle.cu_op.specs.declared.walks.Walk.{Walk}
@@ -32,6 +33,8 @@ use Rattle.cu_reduce.specs.Numbers.{HasNumber}
 use Rattle.cu_region.specs.Writing.{AreElements}
 use Rattle.cu_shape.specs.Index.{product, place_of, differences, IsInside}
 use Rattle.cu_task.specs.Inputs.{room_of_walks}
+use Rattle.cu_task.specs.Strips.{IsFold}
+use Rattle.cu_task.specs.Task.{IsComputing}
 use Rattle.cu_task.proofs.ReductionTask.{source_walk, source_over, count_is, kind_enough, are_elements, reduced_is}
 use Rattle.cu_task.proofs.TaskRooms.{chunk_parts, IsComputedBy, Parts}
 
@@ -108,3 +111,22 @@ fold_found {kind = kind} {axes = axes} {source = source} {out = out} t s is walk
 -- the array of the results is one of the plan
 pub results_in : {kind : FoldKind} {axes : Axes} {source out : ℕ} (t : TaskView) → Sound t.plan → task_op t ≡ Fold kind axes source out → out < length t.plan.arrays
 results_in t s is = ((subst (Fit t.plan.arrays t.op) is (fit_of t.plan s t.op t.operation)).1 0 0 (omega arith)).0
+
+-- ---- what any fold is
+
+pub fold_computes : (op : Op) → IsFold op → IsComputing op
+fold_computes (Fold kind axes source out) is = tt
+fold_computes op is = absurd is
+
+-- it stores no values beside its result
+pub fold_stores : (op : Op) → IsFold op → None ≡ value_array op
+fold_stores (Fold kind axes source out) is = refl
+fold_stores op is = absurd is
+
+-- it reads one region
+one_region : (arrays : List ArrayInfo) (op : Op) (task : ℕ) → IsFold op → input_walks arrays op task ≡ slice_index_or (input_walks arrays op task) 0 (walk 0 [] []) ∷ []
+one_region arrays (Fold kind axes source out) task is = refl
+one_region arrays op task is = absurd is
+
+pub reads_one : (t : TaskView) → IsFold (task_op t) → input_walks t.plan.arrays (task_op t) t.number ≡ walk_at t 0 ∷ []
+reads_one t is = one_region t.plan.arrays (task_op t) t.number is

@@ -1,6 +1,6 @@
 -- A task that folds what a map makes where it is read: its calls, its region, and what it makes.
-use Rattle.std.proofs.Common.{◌≡◌, ◌<◌, ◌≤◌, ℕ, List, [], ◌∷◌, append-nil, All, None, Some, sym, ap, ◌∙◌, subst, refl}
-use Rattle.std.specs.Prelude.{slice_index_or, sum_by}
+use Rattle.std.proofs.Common.{◌≡◌, ◌<◌, ◌≤◌, ℕ, List, [], append-nil, All, Some, sym, ap, ◌∙◌, subst}
+use Rattle.std.specs.Prelude.{sum_by}
 use Rattle.cu_kern.specs.Lays.{lay_types, loaded_at, LayFits}
 use Rattle.cu_kern.specs.Steps.{value_by_place}
 use Rattle.cu_kern.specs.declared.lays.Lay.{Lay}
@@ -10,50 +10,32 @@ use Rattle.cu_num.specs.declared.types.Dtype.{Dtype}
 use Rattle.cu_op.proofs.TaskCells.{fit_of}
 use Rattle.cu_op.specs.Arrays.{type_at}
 use Rattle.cu_op.specs.Cells.{task_lo, task_hi}
-use Rattle.cu_op.specs.Chunks.{walk}
 use Rattle.cu_op.specs.Kernel.{kernel_value}
 use Rattle.cu_op.specs.KernelTypes.{KernelFits}
-use Rattle.cu_op.specs.Operation.{target_of, value_array}
+use Rattle.cu_op.specs.Operation.{target_of}
 use Rattle.cu_op.specs.Sound.{Sound}
 use Rattle.cu_op.specs.TaskView.{TaskView, task_op, walk_at}
 use Rattle.cu_op.specs.Walks.{cells_of_walks, input_walks, walk_cells}
 use Rattle.cu_op.specs.declared.cells.Cell.{Cell}
 use Rattle.cu_op.specs.declared.kernel.Kernel.{Kernel}
-use Rattle.cu_op.specs.declared.layout.ArrayInfo.{ArrayInfo}
 use Rattle.cu_op.specs.declared.operation.Op.{Op}
-use Rattle.cu_op.specs.declared.operation.Op.TheVariants.{Fold, Map}
+use Rattle.cu_op.specs.declared.operation.Op.TheVariants.{Map}
 use Rattle.cu_op.specs.declared.walks.Walk.{Walk}
 use Rattle.cu_shape.proofs.Places.{index-place, place-below}
 use Rattle.cu_shape.specs.Index.{product, place_of, differences}
 use Rattle.cu_store.specs.Held.{Contents}
 use Rattle.cu_task.proofs.Inside.{computed_calls, computed_tally}
 use Rattle.cu_task.proofs.MapTask.{task_kernel}
+use Rattle.cu_task.proofs.PartialFolds.{fold_computes, reads_one}
 use Rattle.cu_task.specs.Calls.{chunk_calls, chunk_tally}
 use Rattle.cu_task.specs.Inputs.{lays_from, HasRegions, IsMapOf}
 use Rattle.cu_task.specs.OfTask.{calls_for_walks, calls_to_read, cell_weight, held_inputs, read_bytes, tally_for_walks, tally_to_read, walks_from, HasMade, IsMadeFrom}
 use Rattle.cu_task.specs.Strips.{FoldsMap, IsFold, IsMadeThrough, IsMap}
 use Rattle.cu_task.specs.Task.{IsComputing}
 
-pub fold_computes : (op : Op) → IsFold op → IsComputing op
-fold_computes (Fold kind axes source out) is = tt
-fold_computes op is = absurd is
-
 pub map_computes : (op : Op) → IsMap op → IsComputing op
 map_computes (Map kernel ins out) is = tt
 map_computes op is = absurd is
-
--- it stores no values beside its result
-pub fold_stores : (op : Op) → IsFold op → None ≡ value_array op
-fold_stores (Fold kind axes source out) is = refl
-fold_stores op is = absurd is
-
--- it reads one region
-one_region : (arrays : List ArrayInfo) (op : Op) (task : ℕ) → IsFold op → input_walks arrays op task ≡ slice_index_or (input_walks arrays op task) 0 (walk 0 [] []) ∷ []
-one_region arrays (Fold kind axes source out) task is = refl
-one_region arrays op task is = absurd is
-
-pub reads_one : (t : TaskView) → IsFold (task_op t) → input_walks t.plan.arrays (task_op t) t.number ≡ walk_at t 0 ∷ []
-reads_one t is = one_region t.plan.arrays (task_op t) t.number is
 
 cells_of_one : (f : Cell → ℕ) (t : TaskView) → IsFold (task_op t) → sum_by f (cells_of_walks t.plan.arrays (input_walks t.plan.arrays (task_op t) t.number)) ≡ sum_by f (walk_cells t.plan.arrays (walk_at t 0))
 cells_of_one f t is =

@@ -6,8 +6,3 @@ use Rattle.cu_task.specs.declared.groups.LabelFold.{LabelFold}
 -- the operation
 abbrev pub fold_by_labels : LabelFold → Op
 fold_by_labels f = GroupFold f.kind f.axis f.groups f.source f.labels f.out
-
--- an operation is one
-abbrev pub IsFoldByLabels : Op → Type 0
-IsFoldByLabels (GroupFold kind axis groups source labels out) = Unit {0}
-IsFoldByLabels op = ⊥

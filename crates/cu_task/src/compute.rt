@@ -8,7 +8,7 @@ ghost use Rattle.cu_task.specs.OfTask.{found_bytes, made_bytes, own_words, read_
 ghost use Rattle.cu_task.specs.OfTask.{AreOfItsType, IsMadeFrom};
 ghost use Rattle.cu_task.specs.Task.{IsComputing, IsComputed};
 
-use crate::groups::reduce_groups;
+use crate::groups::{LabelFold, reduce_groups};
 use crate::maps::run_map;
 use crate::products::multiply;
 use crate::reductions::{fold, merge};
@@ -52,7 +52,24 @@ pub(crate) fn compute(
             ..
         } => merge(task, *kind, *axis, *out, inputs, output),
         Op::Mul { left, right, out } => multiply(task, *left, *right, *out, inputs, output),
-        Op::GroupFold { .. } => reduce_groups(task, inputs, output),
+        &Op::GroupFold {
+            kind,
+            axis,
+            groups,
+            source,
+            labels,
+            out,
+        } => {
+            let fold = LabelFold {
+                kind,
+                axis,
+                groups,
+                source,
+                labels,
+                out,
+            };
+            reduce_groups(task, &fold, inputs, output)
+        }
         Op::PairFold {
             least,
             axis,

@@ -1,14 +1,14 @@
 //! Tasks of folds by labels.
 ghost use Rattle.std.specs.Prelude.{◌≡◌, length};
 ghost use Rattle.cu_op.specs.TaskView.{task_op};
-ghost use Rattle.cu_task.specs.ByLabels.{fold_by_labels, IsFoldByLabels};
+ghost use Rattle.cu_task.specs.ByLabels.{fold_by_labels};
 ghost use Rattle.cu_task.specs.OfTask.{read_bytes, made_bytes, IsMadeFrom, AreOfItsType};
 
 use crate::inputs::{input_walk, walk_bytes};
 use crate::reductions::dtype_of;
 use cu_group::group_region;
 use cu_num::FoldKind;
-use cu_op::{Op, PlanTask};
+use cu_op::PlanTask;
 use cu_shape::difference;
 
 /// A fold by labels: what is made of the elements of each label along an axis, of which arrays.
@@ -31,14 +31,13 @@ pub(crate) struct LabelFold {
 /// The results of a task, from the regions of the source and of the labels, which stand one behind
 /// the other in `input`: of each group what is made of the elements in the task's part that have
 /// its label.
-pub(crate) fn reduce_groups(task: &PlanTask<'_>, input: &[u8], output: &mut [u8])
-    requires fold { IsFoldByLabels (task_op task.now) }
+pub(crate) fn reduce_groups(task: &PlanTask<'_>, fold: &LabelFold, input: &[u8], output: &mut [u8])
+    requires fold { task_op task.now ≡ fold_by_labels fold.now }
     requires input { length input.now ≡ read_bytes task.now }
     requires output { length output.old ≡ made_bytes task.now }
     ensures values { IsMadeFrom task.now input.now output.new }
     ensures elements { AreOfItsType task.now output.new }
 {
-    let fold = label_fold(task.operation());
     let walk = input_walk(task, 0);
     let (elements, labels) = input.split_at(walk_bytes(task, &walk));
     group_region(
@@ -53,29 +52,4 @@ pub(crate) fn reduce_groups(task: &PlanTask<'_>, input: &[u8], output: &mut [u8]
         labels,
         output,
     );
-}
-
-/// The fields of the operation.
-fn label_fold(op: &Op) -> LabelFold
-    requires { IsFoldByLabels op.now }
-    ensures { op.now ≡ fold_by_labels result }
-{
-    match op {
-        &Op::GroupFold {
-            kind,
-            axis,
-            groups,
-            source,
-            labels,
-            out,
-        } => LabelFold {
-            kind,
-            axis,
-            groups,
-            source,
-            labels,
-            out,
-        },
-        _ => unreachable!(),
-    }
 }

@@ -22,7 +22,7 @@ use cu_shape::{Dims, difference};
 
 /// The bytes of a strip. The fold reads it right after the map has written it, at the same place
 /// of the memory each time, so it should fit into a core's second cache with what the map reads.
-const STRIP: usize = 1 << 17;
+const STRIP: usize = 1 << 18;
 
 /// A map over the regions of its inputs, which stand one behind another.
 #[derive(Clone, Copy)]

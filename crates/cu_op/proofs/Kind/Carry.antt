@@ -7,7 +7,7 @@ use Rattle.cu_op.proofs.AlongAxis.{IsCarried, carried_alike, carried_apart, carr
 use Rattle.cu_op.proofs.Filled.{IsFilled, chunk_filled, filled_at, filled_lengths, within_at}
 use Rattle.cu_op.proofs.Kind.{Laws, Stands, Keeps}
 use Rattle.cu_op.proofs.MapRegions.{within_lengths}
-use Rattle.cu_op.proofs.NewNumbers.{grid_same, type_same, room_same}
+use Rattle.cu_op.proofs.NewNumbers.{grid_same, type_same, room_same, optional_itself}
 use Rattle.cu_op.proofs.ResultRanges.{fold_range}
 use Rattle.cu_op.proofs.Results.{differ_only, nested_only, none_given, not_one}
 use Rattle.cu_op.proofs.Rooms.{any_room_few, next_few}
@@ -145,7 +145,8 @@ carry_laws axis group sums above out = record {
   one_written = λ one. absurd (not_one one);
   one_grid = λ arrays one. absurd (not_one one);
   one_room = λ arrays one. absurd (not_one one);
-  one_read = λ arrays d w s here among by. absurd by;
+  one_read = λ arrays d w s here among by. absurd (not_one by);
+  by_chunk_room = λ arrays a by. absurd (not_one by);
   grid = λ arrays s. s.grids out (s.writes 0 0 (omega arith));
   nested = λ arrays s. nested_only arrays out (s.grids out (s.writes 0 0 (omega arith)));
   differ = λ arrays lo hi s. differ_only out lo hi;
@@ -180,6 +181,7 @@ carry_laws axis group sums above out = record {
     input_room = λ old new s. ap (λ n. (group + 1) * n) (room_same f old new sums (s.reads 0 0 (omega arith)));
     output_room = λ old new s. room_same f old new out (s.writes 0 0 (omega arith));
   };
+  itself = λ arrays h. subst (λ (o : Option ℕ). (carry_kind axis group sums o out).fits arrays) (optional_itself above) h;
   compares = λ array is. absurd (none_given array is);
   stores = λ array is. absurd (none_given array is);
   stores_none = λ is. refl;

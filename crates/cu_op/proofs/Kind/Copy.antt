@@ -28,7 +28,8 @@ copy_laws region source out = record {
   one_written = λ one. absurd (not_one one);
   one_grid = λ arrays one. absurd (not_one one);
   one_room = λ arrays one. absurd (not_one one);
-  one_read = λ arrays d w s here among by. absurd by;
+  one_read = λ arrays d w s here among by. absurd (not_one by);
+  by_chunk_room = λ arrays a by. absurd (not_one by);
   grid = λ arrays s. s.fits.regions;
   nested = λ arrays s.
       let P : ℕ → Type 0 = λ a. IsNested (grid_at arrays a) (region_grid (grid_at arrays out) region) in
@@ -71,6 +72,7 @@ copy_laws region source out = record {
     input_room = λ old new s. ap (λ t. product region * size_of t) (type_same f old new source (s.reads 0 0 (omega arith)));
     output_room = λ old new s. refl;
   };
+  itself = λ arrays h. h;
   compares = λ array is. absurd (none_given array is);
   stores = λ array is. absurd (none_given array is);
   stores_none = λ is. refl;

@@ -5,6 +5,7 @@ use Rattle.cu_op.proofs.Members.{only_member}
 use Rattle.cu_grid.specs.Counts.{chunk_lo, chunk_hi}
 use Rattle.cu_num.specs.declared.folds.FoldKind.{FoldKind}
 use Rattle.cu_op.proofs.Alike.{same_mapped}
+use Rattle.cu_op.proofs.ByChunk.{room_told}
 use Rattle.cu_op.proofs.Filled.{IsFilled, chunk_filled}
 use Rattle.cu_op.proofs.Grouped.{partial_region, partial_reads}
 use Rattle.cu_op.proofs.Kind.{Laws, Stands}
@@ -15,7 +16,7 @@ use Rattle.cu_op.proofs.Results.{differ_only, nested_only, none_given}
 use Rattle.cu_op.proofs.Rooms.{any_room_few}
 use Rattle.cu_op.proofs.SameCells.{of_one, folded_same, folded_one}
 use Rattle.cu_op.proofs.WalksOf.{over_one, apart_one, first_of_walks}
-use Rattle.cu_op.specs.Arrays.{grid_at, type_at}
+use Rattle.cu_op.specs.Arrays.{grid_at, type_at, chunk_room}
 use Rattle.cu_op.specs.Kind.Fold.{fold_kind}
 use Rattle.cu_op.specs.Partial.{partial_indices, chunk_groups}
 use Rattle.cu_op.specs.Walks.{IsWalkOver}
@@ -42,6 +43,7 @@ fold_laws kind axes source out = record {
       let own = partial_walk arrays (chunk_groups axes (grid_at arrays source)) source out (chunk_lo g.chunk d) (chunk_hi g.shape g.chunk d) in
       subst (λ (v : Walk). IsOneChunk (grid_at arrays v.array) v.region) (only_member own w among)
       (folded_one arrays s.grids (has_axis axes) source out d (s.reads 0 0 (omega arith)) (s.writes 0 0 (omega arith)) s.fits.result here);
+  by_chunk_room = λ arrays a by. room_told arrays a source (chunk_room arrays source) by (omega arith);
   grid = λ arrays s. s.grids out (s.writes 0 0 (omega arith));
   nested = λ arrays s. nested_only arrays out (s.grids out (s.writes 0 0 (omega arith)));
   differ = λ arrays lo hi s. differ_only out lo hi;
@@ -80,6 +82,7 @@ fold_laws kind axes source out = record {
     input_room = λ old new s. room_same f old new source (s.reads 0 0 (omega arith));
     output_room = λ old new s. room_same f old new out (s.writes 0 0 (omega arith));
   };
+  itself = λ arrays h. h;
   compares = λ array is. absurd (none_given array is);
   stores = λ array is. absurd (none_given array is);
   stores_none = λ is. refl;

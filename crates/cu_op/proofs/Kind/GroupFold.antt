@@ -8,6 +8,7 @@ use Rattle.cu_num.specs.Dtype.{IsInteger}
 use Rattle.cu_num.specs.declared.folds.FoldKind.{FoldKind}
 use Rattle.cu_op.proofs.Alike.{same_mapped}
 use Rattle.cu_op.proofs.ByLabels.{source_over, labels_over, source_reads, labels_reads, operands_apart, source_box, labels_box, source_long, labels_long, source_span, labels_span, grouped_range}
+use Rattle.cu_op.proofs.ByChunk.{room_told}
 use Rattle.cu_op.proofs.Filled.{IsFilled, chunk_filled}
 use Rattle.cu_op.proofs.Kind.{Laws, Stands, Keeps}
 use Rattle.cu_op.proofs.NewNumbers.{grid_same, type_same, room_same}
@@ -17,7 +18,7 @@ use Rattle.cu_op.proofs.SameCells.{HaveSame, of_two, operand_same, operand_one}
 use Rattle.cu_op.proofs.Spans.{chunk_span}
 use Rattle.cu_op.proofs.WalksOf.{over_two, apart_two, first_of_walks, second_of_walks}
 use Rattle.cu_op.specs.Along.{size_on, chunk_on}
-use Rattle.cu_op.specs.Arrays.{grid_at, type_at}
+use Rattle.cu_op.specs.Arrays.{grid_at, type_at, chunk_room}
 use Rattle.cu_op.specs.Grouping.{source_index, label_chunks, part_places, grouped_walk, labels_walk, label_part}
 use Rattle.cu_op.specs.Kind.GroupFold.{group_fold_kind, GroupFoldFits}
 use Rattle.cu_op.specs.Matrix.{HasParts}
@@ -44,6 +45,7 @@ group_fold_laws kind axis groups source labels out = record {
   one_grid = λ arrays one. refl;
   one_room = λ arrays one. refl;
   one_read = λ arrays d w s here among by. group_one arrays d w s here among;
+  by_chunk_room = λ arrays a by. room_told arrays a source (chunk_room arrays source + chunk_room arrays labels) by (omega arith);
   grid = λ arrays s. s.grids out (s.writes 0 0 (omega arith));
   nested = λ arrays s. nested_only arrays out (s.grids out (s.writes 0 0 (omega arith)));
   differ = λ arrays lo hi s. differ_only out lo hi;
@@ -85,6 +87,7 @@ group_fold_laws kind axis groups source labels out = record {
     input_room = λ old new s. λ i. room_same f old new source (s.reads 0 0 (omega arith)) i + room_same f old new labels (s.reads 1 0 (omega arith)) i;
     output_room = λ old new s. room_same f old new out (s.writes 0 0 (omega arith));
   };
+  itself = λ arrays h. h;
   compares = λ array is. absurd (none_given array is);
   stores = λ array is. absurd (none_given array is);
   stores_none = λ is. refl;

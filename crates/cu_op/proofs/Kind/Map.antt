@@ -4,12 +4,13 @@ use Rattle.cu_grid.specs.Grid.{IsCoordinate}
 use Rattle.cu_num.specs.Dtype.{InRange}
 use Rattle.cu_num.specs.declared.types.Dtype.{Dtype}
 use Rattle.cu_op.proofs.Alike.{same_kernel, same_given}
+use Rattle.cu_op.proofs.ByChunk.{alike_told}
 use Rattle.cu_op.proofs.CellsOfTasks.{map_contains}
 use Rattle.cu_op.proofs.Filled.{IsFilled, filled_region, chunk_filled, contains_mapped}
 use Rattle.cu_op.proofs.KernelRanges.{kernel_range}
 use Rattle.cu_op.proofs.Kind.{Laws, Stands, ReadsTypes}
 use Rattle.cu_op.proofs.MapRegions.{read_within, within_lengths, read_over}
-use Rattle.cu_op.proofs.NewNumbers.{given_same, grid_same, type_same, types_same, all_renumbered, room_same, sum_same}
+use Rattle.cu_op.proofs.NewNumbers.{given_same, grid_same, type_same, types_same, all_renumbered, room_same, sum_same, mapped_itself}
 use Rattle.cu_op.proofs.PairRanges.{some_map, some_then}
 use Rattle.cu_op.proofs.Results.{only_written, differ_only, nested_only, none_given}
 use Rattle.cu_op.proofs.Rooms.{any_room_few, room_few}
@@ -28,11 +29,11 @@ use Rattle.cu_op.specs.declared.layout.ArrayInfo.{ArrayInfo}
 use Rattle.cu_op.specs.declared.walks.Walk.{Walk}
 use Rattle.cu_shape.proofs.Places.{inside-length}
 use Rattle.cu_shape.specs.Index.{IsInside, back}
-use Rattle.std.proofs.Common.{◌≡◌, ℕ, List, [], ◌∷◌, length, All, Contains, get_or, refl, sym, ◌∙◌, subst, arith, map, ap, ◌≤◌, ◌*◌, ◌^◌, ◌<◌}
+use Rattle.std.proofs.Common.{◌≡◌, ℕ, List, [], ◌∷◌, length, All, Contains, get_or, refl, sym, ◌∙◌, subst, arith, map, ap, ◌≤◌, ◌*◌, ◌^◌, ◌<◌, sum_by}
 use Rattle.std.proofs.Math.Nat.{mul-le-mul_right}
 use Rattle.std.proofs.lemmas.List.Concat.{flat_map_single}
 use Rattle.std.proofs.lemmas.List.Elements.{All-contains, All-contains_itself, All-map}
-use Rattle.std.proofs.lemmas.List.Sums.{sum_by-le}
+use Rattle.std.proofs.lemmas.List.Sums.{sum_by-le, get_or-le-sum_by}
 use Rattle.std.proofs.lemmas.Option.{same_Some, slice_get_within, get_or_from_slice_get, slice_get-map}
 use Rattle.std.specs.List.{slice_get}
 use Rattle.std.specs.Option.{option_and_then}
@@ -96,6 +97,9 @@ map_laws code ins out = record {
       let within = All-contains (λ b. b < length arrays) ins a s.reads listed in
       let aligned = All-contains (λ b. IsAligned (grid_at arrays b) g) ins a s.fits.inputs listed in
       subst (λ (v : Walk). IsOneChunk (grid_at arrays v.array) v.region) is (read_one arrays a g d (s.grids a within) (s.grids out (s.writes 0 0 (omega arith))) aligned here);
+  by_chunk_room = λ arrays a by.
+      let (i, l, e) = (alike_told ins a (grid_at arrays a) (grid_at arrays out) by).0 in
+      subst (λ (b : ℕ). chunk_room arrays b ≤ sum_by (chunk_room arrays) ins) e (get_or-le-sum_by (chunk_room arrays) ins i a l);
   grid = λ arrays s. s.grids out (s.writes 0 0 (omega arith));
   nested = λ arrays s. nested_only arrays out (s.grids out (s.writes 0 0 (omega arith)));
   differ = λ arrays lo hi s. differ_only out lo hi;
@@ -140,6 +144,7 @@ map_laws code ins out = record {
     input_room = λ old new s. sum_same f old new ins s.reads;
     output_room = λ old new s. room_same f old new out (s.writes 0 0 (omega arith));
   };
+  itself = λ arrays h. subst (λ (xs : List ℕ). (map_kind code xs out).fits arrays) (mapped_itself ins) h;
   compares = λ array is. absurd (none_given array is);
   stores = λ array is. absurd (none_given array is);
   stores_none = λ is. refl;

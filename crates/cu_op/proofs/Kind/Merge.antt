@@ -6,7 +6,7 @@ use Rattle.cu_op.proofs.Kind.{Laws}
 use Rattle.cu_op.proofs.NewNumbers.{grid_same, type_same, fold_fits, merge_along, room_same}
 use Rattle.cu_op.proofs.PlanGroups.{merge_ranks}
 use Rattle.cu_op.proofs.ResultRanges.{fold_range}
-use Rattle.cu_op.proofs.Results.{differ_only, nested_only, none_given}
+use Rattle.cu_op.proofs.Results.{differ_only, nested_only, none_given, not_one}
 use Rattle.cu_op.proofs.Rooms.{any_room_few, group_few}
 use Rattle.cu_op.proofs.SameCells.{of_one, merged_same}
 use Rattle.cu_op.proofs.WalksOf.{over_one, apart_one, first_of_walks}
@@ -27,7 +27,8 @@ merge_laws kind axis group source out = record {
   one_written = λ one. refl;
   one_grid = λ arrays one. refl;
   one_room = λ arrays one. refl;
-  one_read = λ arrays d w s here among by. absurd by;
+  one_read = λ arrays d w s here among by. absurd (not_one by);
+  by_chunk_room = λ arrays a by. absurd (not_one by);
   grid = λ arrays s. s.grids out (s.writes 0 0 (omega arith));
   nested = λ arrays s. nested_only arrays out (s.grids out (s.writes 0 0 (omega arith)));
   differ = λ arrays lo hi s. differ_only out lo hi;
@@ -64,6 +65,7 @@ merge_laws kind axis group source out = record {
     input_room = λ old new s. ap (λ n. group * n) (room_same f old new source (s.reads 0 0 (omega arith)));
     output_room = λ old new s. room_same f old new out (s.writes 0 0 (omega arith));
   };
+  itself = λ arrays h. h;
   compares = λ array is. absurd (none_given array is);
   stores = λ array is. absurd (none_given array is);
   stores_none = λ is. refl;

@@ -11,7 +11,7 @@ use Rattle.cu_op.proofs.Kind.{Laws, Stands, Keeps}
 use Rattle.cu_op.proofs.Matrices.{left_over, right_over, left_reads, right_reads, operands_apart, left_box, right_box, left_long, right_long, left_span, right_span}
 use Rattle.cu_op.proofs.NewNumbers.{grid_same, type_same, room_same}
 use Rattle.cu_op.proofs.ResultRanges.{fold_range}
-use Rattle.cu_op.proofs.Results.{differ_only, nested_only, none_given}
+use Rattle.cu_op.proofs.Results.{differ_only, nested_only, none_given, not_one}
 use Rattle.cu_op.proofs.Rooms.{any_room_few}
 use Rattle.cu_op.proofs.SameCells.{HaveSame, of_two, operand_same}
 use Rattle.cu_op.proofs.Spans.{chunk_span}
@@ -45,7 +45,8 @@ mul_laws left right out = record {
   one_written = λ one. refl;
   one_grid = λ arrays one. refl;
   one_room = λ arrays one. refl;
-  one_read = λ arrays d w s here among by. absurd by;
+  one_read = λ arrays d w s here among by. absurd (not_one by);
+  by_chunk_room = λ arrays a by. absurd (not_one by);
   grid = λ arrays s. s.grids out (s.writes 0 0 (omega arith));
   nested = λ arrays s. nested_only arrays out (s.grids out (s.writes 0 0 (omega arith)));
   differ = λ arrays lo hi s. differ_only out lo hi;
@@ -85,6 +86,7 @@ mul_laws left right out = record {
     input_room = λ old new s. λ i. room_same f old new left (s.reads 0 0 (omega arith)) i + room_same f old new right (s.reads 1 0 (omega arith)) i;
     output_room = λ old new s. room_same f old new out (s.writes 0 0 (omega arith));
   };
+  itself = λ arrays h. h;
   compares = λ array is. absurd (none_given array is);
   stores = λ array is. absurd (none_given array is);
   stores_none = λ is. refl;

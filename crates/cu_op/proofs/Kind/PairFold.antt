@@ -5,17 +5,18 @@ use Rattle.cu_op.proofs.Members.{only_member}
 use Rattle.cu_grid.specs.Counts.{chunk_lo, chunk_hi}
 use Rattle.cu_num.specs.Dtype.{InRange}
 use Rattle.cu_op.proofs.Alike.{same_mapped}
+use Rattle.cu_op.proofs.ByChunk.{room_told}
 use Rattle.cu_op.proofs.Filled.{IsFilled, chunk_filled, contains_mapped}
 use Rattle.cu_op.proofs.Grouped.{partial_region, partial_reads}
 use Rattle.cu_op.proofs.Kind.{Laws, Stands}
-use Rattle.cu_op.proofs.NewNumbers.{bool_same, pairs_renumbered, grid_same, place_kept, pair_fits, place_axis, room_same, value_room_same}
+use Rattle.cu_op.proofs.NewNumbers.{bool_same, pairs_renumbered, grid_same, place_kept, pair_fits, place_axis, room_same, value_room_same, optional_itself}
 use Rattle.cu_op.proofs.PairRanges.{best_listed, found_parts, place_range, pair_range}
 use Rattle.cu_op.proofs.PlanGroups.{chunk_ranks}
 use Rattle.cu_op.proofs.Results.{pair_last, nested_pair, differ_pair, pair_compares, pair_stored, pair_only, type_stored, not_one}
 use Rattle.cu_op.proofs.Rooms.{any_room_few}
 use Rattle.cu_op.proofs.SameCells.{of_one, folded_same, folded_one}
 use Rattle.cu_op.proofs.WalksOf.{over_one, apart_one, first_of_walks}
-use Rattle.cu_op.specs.Arrays.{grid_at}
+use Rattle.cu_op.specs.Arrays.{grid_at, chunk_room}
 use Rattle.cu_op.specs.Kind.PairFold.{pair_fold_kind}
 use Rattle.cu_op.specs.Places.{pair_writes, pair_part, counted_at}
 use Rattle.cu_op.specs.Partial.{partial_indices, place_groups}
@@ -46,6 +47,7 @@ pair_fold_laws least axis source values out = record {
       let own = partial_walk arrays (place_groups axis (grid_at arrays source)) source out (chunk_lo g.chunk d) (chunk_hi g.shape g.chunk d) in
       subst (λ (v : Walk). IsOneChunk (grid_at arrays v.array) v.region) (only_member own w among)
       (folded_one arrays s.grids (is_sought axis) source out d (s.reads 0 0 (omega arith)) (made arrays s.writes) s.fits.1.result here);
+  by_chunk_room = λ arrays a by. room_told arrays a source (chunk_room arrays source) by (omega arith);
   grid = λ arrays s. s.grids out (made arrays s.writes);
   nested = λ arrays s. nested_pair arrays values source out s.fits.1.stored (s.grids out (made arrays s.writes));
   differ = λ arrays lo hi s. differ_pair arrays values source out lo hi s.fits.1.stored;
@@ -98,6 +100,7 @@ pair_fold_laws least axis source values out = record {
         let ko = place_kept f old new values out s.writes in
         λ i. value_room_same f old new source out ks ko i + room_same f old new out ko i;
   };
+  itself = λ arrays h. subst (λ (o : Option ℕ). (pair_fold_kind least axis source o out).fits arrays) (optional_itself values) h;
   compares = pair_compares source ([]);
   stores = pair_stored values out;
   stores_none = pair_only values out;

@@ -6,7 +6,7 @@ use Rattle.cu_op.proofs.Alike.{same_mapped}
 use Rattle.cu_op.proofs.Filled.{contains_mapped}
 use Rattle.cu_op.proofs.Grouped.{partial_region, partial_reads}
 use Rattle.cu_op.proofs.Kind.{Laws}
-use Rattle.cu_op.proofs.NewNumbers.{bool_same, pairs_renumbered, grid_same, type_same, merge_along, place_kept, pair_fits, room_same, value_room_same}
+use Rattle.cu_op.proofs.NewNumbers.{bool_same, pairs_renumbered, grid_same, type_same, merge_along, place_kept, pair_fits, room_same, value_room_same, optional_itself}
 use Rattle.cu_op.proofs.PairRanges.{best_listed, found_parts, pair_range}
 use Rattle.cu_op.proofs.PlanGroups.{merge_ranks, place_squeezed, place_within}
 use Rattle.cu_op.proofs.Results.{pair_last, nested_pair, differ_pair, pair_compares, pair_stored, pair_only, type_stored, not_one}
@@ -36,7 +36,8 @@ pair_merge_laws least axis group value_source place_source values out = record {
   one_written = λ one. absurd (not_one one);
   one_grid = λ arrays one. absurd (not_one one);
   one_room = λ arrays one. absurd (not_one one);
-  one_read = λ arrays d w s here among by. absurd by;
+  one_read = λ arrays d w s here among by. absurd (not_one by);
+  by_chunk_room = λ arrays a by. absurd (not_one by);
   grid = λ arrays s. s.grids out (made arrays s.writes);
   nested = λ arrays s. nested_pair arrays values value_source out s.fits.2.stored (s.grids out (made arrays s.writes));
   differ = λ arrays lo hi s. differ_pair arrays values value_source out lo hi s.fits.2.stored;
@@ -100,6 +101,7 @@ pair_merge_laws least axis group value_source place_source values out = record {
         let ko = place_kept f old new values out s.writes in
         λ i. value_room_same f old new value_source out ks ko i + room_same f old new out ko i;
   };
+  itself = λ arrays h. subst (λ (o : Option ℕ). (pair_merge_kind least axis group value_source place_source o out).fits arrays) (optional_itself values) h;
   compares = pair_compares value_source (place_source ∷ []);
   stores = pair_stored values out;
   stores_none = pair_only values out;

@@ -5,9 +5,9 @@ use Rattle.cu_num.specs.declared.types.Dtype.{Dtype}
 use Rattle.cu_op.proofs.Alike.{same_pulled}
 use Rattle.cu_op.proofs.CellsOfTasks.{map_contains}
 use Rattle.cu_op.proofs.Kind.{Laws, Stands, ReadsTypes}
-use Rattle.cu_op.proofs.NewNumbers.{given_same, grid_same, type_same, shapes_same, all_renumbered, room_same}
+use Rattle.cu_op.proofs.NewNumbers.{given_same, grid_same, type_same, shapes_same, all_renumbered, room_same, mapped_itself}
 use Rattle.cu_op.proofs.PairRanges.{some_then}
-use Rattle.cu_op.proofs.Results.{only_written, differ_only, nested_only, none_given}
+use Rattle.cu_op.proofs.Results.{only_written, differ_only, nested_only, none_given, not_one}
 use Rattle.cu_op.proofs.Rooms.{any_room_few}
 use Rattle.cu_op.proofs.SameCells.{of_each, whole_same}
 use Rattle.cu_op.proofs.WalksOf.{apart_each, own_arrays}
@@ -80,7 +80,8 @@ pull_laws pull ins out = record {
   one_written = λ one. refl;
   one_grid = λ arrays one. refl;
   one_room = λ arrays one. refl;
-  one_read = λ arrays d w s here among by. absurd by;
+  one_read = λ arrays d w s here among by. absurd (not_one by);
+  by_chunk_room = λ arrays a by. absurd (not_one by);
   grid = λ arrays s. s.grids out (s.writes 0 0 (omega arith));
   nested = λ arrays s. nested_only arrays out (s.grids out (s.writes 0 0 (omega arith)));
   differ = λ arrays lo hi s. differ_only out lo hi;
@@ -124,6 +125,7 @@ pull_laws pull ins out = record {
     input_room = λ old new s. refl;
     output_room = λ old new s. room_same f old new out (s.writes 0 0 (omega arith));
   };
+  itself = λ arrays h. subst (λ (xs : List ℕ). (pull_kind pull xs out).fits arrays) (mapped_itself ins) h;
   compares = λ array is. absurd (none_given array is);
   stores = λ array is. absurd (none_given array is);
   stores_none = λ is. refl;

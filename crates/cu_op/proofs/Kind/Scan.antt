@@ -4,11 +4,12 @@ use Rattle.cu_grid.specs.Counts.{chunk_lo, chunk_hi, IsWithin}
 use Rattle.cu_grid.specs.Grid.{RegularGrid, IsGrid, IsCoordinate}
 use Rattle.cu_num.specs.declared.folds.FoldKind.TheVariants.{Sum}
 use Rattle.cu_op.proofs.AlongAxis.{IsCarried, array_renumbered, carried_alike, carried_apart, carried_in, carried_listed, carried_renumbered, carried_room_few, carried_same, carried_walked, carries_renumbered, chunked_grid, ends_on, group_over, group_reads, room_renumbered, same_group, span_alike, carried_first}
+use Rattle.cu_op.proofs.ByChunk.{room_told, told_equal}
 use Rattle.cu_op.proofs.Filled.{IsFilled, chunk_filled, filled_at, filled_lengths, within_at}
 use Rattle.cu_op.proofs.InputBoxes.{own_chunk}
 use Rattle.cu_op.proofs.Kind.{Laws, Stands, Keeps}
 use Rattle.cu_op.proofs.MapRegions.{within_lengths}
-use Rattle.cu_op.proofs.NewNumbers.{grid_same, type_same, room_same}
+use Rattle.cu_op.proofs.NewNumbers.{grid_same, type_same, room_same, optional_itself}
 use Rattle.cu_op.proofs.ResultRanges.{fold_range}
 use Rattle.cu_op.proofs.Results.{differ_only, nested_only, none_given}
 use Rattle.cu_op.proofs.Rooms.{any_room_few}
@@ -152,7 +153,8 @@ scan_laws axis source carry out = record {
   one_written = λ one. refl;
   one_grid = λ arrays one. refl;
   one_room = λ arrays one. refl;
-  one_read = λ arrays d w s here among by. scan_one axis source carry out arrays d s (subst (λ (g : RegularGrid). IsCoordinate g d) s.fits.grid here) w among by;
+  one_read = λ arrays d w s here among by. scan_one axis source carry out arrays d s (subst (λ (g : RegularGrid). IsCoordinate g d) s.fits.grid here) w among (told_equal w.array source by);
+  by_chunk_room = λ arrays a by. room_told arrays a source ((scan_kind axis source carry out).input_room arrays) by (omega arith);
   grid = λ arrays s. s.grids out (s.writes 0 0 (omega arith));
   nested = λ arrays s. nested_only arrays out (s.grids out (s.writes 0 0 (omega arith)));
   differ = λ arrays lo hi s. differ_only out lo hi;
@@ -193,6 +195,7 @@ scan_laws axis source carry out = record {
         λ i. R i + C i;
     output_room = λ old new s. room_same f old new out (s.writes 0 0 (omega arith));
   };
+  itself = λ arrays h. subst (λ (o : Option ℕ). (scan_kind axis source o out).fits arrays) (optional_itself carry) h;
   compares = λ array is. absurd (none_given array is);
   stores = λ array is. absurd (none_given array is);
   stores_none = λ is. refl;

@@ -13,7 +13,7 @@ use Rattle.cu_op.specs.declared.layout.ArrayInfo.{ArrayInfo}
 use Rattle.cu_op.specs.declared.operation.Op.TheVariants.{GroupFold}
 use Rattle.cu_reduce.specs.Kinds.{Accumulates}
 use Rattle.cu_reduce.specs.Labels.{grouped_to, marked}
-use Rattle.std.specs.Prelude.{◌≡◌, ◌⊎◌, ℕ, ◌+◌, ◌<◌, ◌≤◌, [], ◌∷◌, ◌++◌, List, length, Contains, None, codes, slice_index, slice_set, true}
+use Rattle.std.specs.Prelude.{◌≡◌, ◌⊎◌, ℕ, ◌+◌, ◌<◌, ◌≤◌, [], ◌∷◌, ◌++◌, List, length, Contains, None, codes, slice_index, slice_set, ◌==◌, true}
 
 -- the labels go along the axis in the source's chunks; the result has the groups there, in one chunk
 pub record GroupFoldFits (arrays : List ArrayInfo) (kind : FoldKind) (axis groups source labels out : ℕ) : Type 0 where
@@ -38,7 +38,7 @@ group_fold_kind kind axis groups source labels out = record {
   writes = out ∷ [];
   target = out;
   one_chunk = true;
-  by_chunk = λ arrays a. a ≡ source;
+  by_chunk = λ arrays a. a == source;
   fits = λ arrays. GroupFoldFits arrays kind axis groups source labels out;
   tasks = λ arrays. grid_at arrays out;
   walks = λ arrays lo hi. grouped_walk (grid_at arrays source) axis source lo hi ∷ labels_walk (grid_at arrays source) axis labels lo hi ∷ [];

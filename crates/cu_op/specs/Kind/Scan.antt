@@ -10,7 +10,7 @@ use Rattle.cu_op.specs.declared.layout.ArrayInfo.{ArrayInfo}
 use Rattle.cu_op.specs.declared.operation.Op.TheVariants.{Scan}
 use Rattle.cu_reduce.specs.Kinds.{Accumulates}
 use Rattle.cu_reduce.specs.Tiers.{scan_at}
-use Rattle.std.specs.Prelude.{◌≡◌, ◌⊎◌, ℕ, ◌+◌, ◌*◌, ◌/◌, ◌<◌, ◌≤◌, [], ◌∷◌, ◌++◌, List, length, Option, Some, None, option_map, codes, slice_index, slice_set, true}
+use Rattle.std.specs.Prelude.{◌≡◌, ◌⊎◌, ℕ, ◌+◌, ◌*◌, ◌/◌, ◌<◌, ◌≤◌, [], ◌∷◌, ◌++◌, List, length, Option, Some, None, option_map, codes, slice_index, slice_set, ◌==◌, true}
 
 -- the result has the source's grid; where something is carried in, it has a number for each chunk along the axis
 pub record ScanFits (arrays : List ArrayInfo) (axis source : ℕ) (carry : Option ℕ) (out : ℕ) : Type 0 where
@@ -25,7 +25,7 @@ scan_kind axis source carry out = record {
   writes = out ∷ [];
   target = out;
   one_chunk = true;
-  by_chunk = λ arrays a. a ≡ source;
+  by_chunk = λ arrays a. a == source;
   fits = λ arrays. ScanFits arrays axis source carry out;
   tasks = λ arrays. grid_at arrays out;
   walks = λ arrays lo hi.

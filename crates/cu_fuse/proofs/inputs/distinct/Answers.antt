@@ -1,5 +1,5 @@
 use Rattle.std.proofs.Common.{◌≡◌, ◌++◌, [], ◌∷◌, List, ℕ, length, get_or, ap, sym, ◌∙◌, arith, length-append}
-use Rattle.cu_fuse.specs.Fused.{stands_in}
+use Rattle.cu_op.specs.Numbers.{stands_in}
 use Rattle.cu_fuse.proofs.Distinct.{distinct_more_again, distinct_more_new}
 use Rattle.cu_fuse.proofs.inputs.distinct.Goals as goal
 use Rattle.cu_fuse.proofs.inputs.distinct.Goals.{then-not-stands_in, else-not-stands_in}

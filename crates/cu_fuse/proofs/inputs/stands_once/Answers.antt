@@ -1,5 +1,5 @@
 use Rattle.std.proofs.Common.{◌+◌, ap, sym, ◌∙◌, not, arith}
-use Rattle.cu_fuse.specs.Fused.{stands_in}
+use Rattle.cu_op.specs.Numbers.{stands_in}
 use Rattle.cu_fuse.proofs.Scanning.{once_where, once_nowhere, rest_taken, not_below}
 use Rattle.cu_fuse.proofs.inputs.stands_once.Goals as goal
 

@@ -7,9 +7,9 @@ use Rattle.cu_op.specs.Arrays.{type_at}
 use Rattle.cu_op.specs.declared.operation.Planned.{Planned}
 use Rattle.cu_op.specs.Operation.{reads_of, target_of, writes_of, Fits}
 use Rattle.cu_op.specs.Projection.{HasSmallRegions, instruction_count, own_projection}
-use Rattle.cu_fuse.specs.Fused.{SettingView, is_small, joint, joint_op, stands_in}
+use Rattle.cu_fuse.specs.Fused.{SettingView, is_small, joint, joint_op}
 use Rattle.cu_fuse.specs.Once.{loaded_by, plain_map}
-use Rattle.cu_op.specs.Numbers.{number_in}
+use Rattle.cu_op.specs.Numbers.{number_in, stands_in}
 use Rattle.cu_fuse.specs.Splice.{AreNumbersBelow, put_in, spliced}
 use Rattle.cu_fuse.proofs.Distinct.{at_place}
 use Rattle.cu_fuse.proofs.Joining.{joined, many_inputs, many_steps, much_memory, on_some_then, small_is}

@@ -8,7 +8,6 @@ use Rattle.cu_op.specs.Operation.{value_array}
 use Rattle.cu_task.proofs.TaskKinds.{none_stored, searched_room}
 use Rattle.cu_task.proofs.TaskRegions.{stored_type}
 use Rattle.cu_op.specs.declared.operation.Op.{Op}
-use Rattle.cu_task.specs.ByLabels.{IsFoldByLabels}
 use Rattle.cu_task.specs.Inputs.{IsMapOf, IsMergeOf, IsSearchOf, IsSearchAmong, IsCarryOf, IsScanOf}
 use Rattle.cu_task.proofs.compute.compute.Goals as goal
 
@@ -43,7 +42,7 @@ pub returns-in-GroupFold-clause-value_elements : goal.returns-in-GroupFold-claus
 returns-in-GroupFold-clause-value_elements c array is = absurd (none_stored array (sym (ap value_array (sym c.operation.ensures.operation ∙ c.in-GroupFold.is)) ∙ is))
 
 pub reduce_groups-requires-clause-fold : goal.reduce_groups-requires-clause-fold
-reduce_groups-requires-clause-fold c = subst IsFoldByLabels (sym (sym c.operation.ensures.operation ∙ c.in-GroupFold.is)) tt
+reduce_groups-requires-clause-fold c = sym c.operation.ensures.operation ∙ c.in-GroupFold.is
 
 pub reduce_groups-requires-clause-input : goal.reduce_groups-requires-clause-input
 reduce_groups-requires-clause-input c = c.requires.inputs

@@ -7,7 +7,7 @@ use Rattle.cu_shape.specs.Index.{product}
 use Rattle.cu_op.specs.Arrays.{type_at}
 use Rattle.cu_op.specs.TaskView.{task_op}
 use Rattle.cu_op.proofs.TaskCells.{region_lengths}
-use Rattle.cu_task.specs.ByLabels.{fold_by_labels, IsFoldByLabels}
+use Rattle.cu_task.specs.ByLabels.{fold_by_labels}
 use Rattle.cu_task.specs.Inputs.{walk_room}
 use Rattle.cu_task.proofs.LabelTask.{LabelRegion, HasGroups, dims_long}
 use Rattle.cu_task.proofs.LabelPlan.{group_task, region, walk_same, dims_same, rooms, made_room, Cut, groups_made, elements_made}
@@ -15,9 +15,6 @@ use Rattle.cu_task.proofs.groups.reduce_groups.Goals as goal
 
 abbrev made_region : FoldKind → ℕ → ℕ → Dtype → Dtype → Dtype → List ℕ → LabelRegion
 made_region kind axis groups source label made dims = record { kind = kind; axis = axis; groups = groups; source_type = source; label_type = label; made_type = made; dims = dims }
-
-pub label_fold-fold-requires : goal.label_fold-fold-requires
-label_fold-fold-requires c = subst IsFoldByLabels (sym c.operation.ensures.operation) c.requires.fold
 
 pub difference-requires : goal.difference-requires
 difference-requires c = let e = region_lengths _ _ _ c.input_walk-walk.ensures.over.1 in e.0 ∙ sym e.1
@@ -27,8 +24,8 @@ split_at-requires c =
     let p = c.args.task.now.plan in
     let k = c.args.task.now.op in
     let n = c.args.task.now.number in
-    let a = c.label_fold-fold.result in
-    let is : task_op c.args.task.now ≡ fold_by_labels a = sym c.operation.ensures.operation ∙ c.label_fold-fold.ensures in
+    let a = c.args.fold.now in
+    let is : task_op c.args.task.now ≡ fold_by_labels a = c.requires.fold in
     let t = group_task p k n a c.input_walk-walk.ensures.sound is c.args.task.now.operation c.args.task.now.within in
     let walked = walk_same p k n a is t c.input_walk-walk.result c.input_walk-walk.ensures.walk in
     let at : c.walk_bytes.result ≡ product (region p k n a is t).dims * size_of (type_at p.arrays a.source) = c.walk_bytes.ensures.bytes ∙ ap (walk_room p.arrays) walked in
@@ -40,8 +37,8 @@ dtype_of-requires c =
     let p = c.args.task.now.plan in
     let k = c.args.task.now.op in
     let n = c.args.task.now.number in
-    let a = c.label_fold-fold.result in
-    let is : task_op c.args.task.now ≡ fold_by_labels a = sym c.operation.ensures.operation ∙ c.label_fold-fold.ensures in
+    let a = c.args.fold.now in
+    let is : task_op c.args.task.now ≡ fold_by_labels a = c.requires.fold in
     let t = group_task p k n a c.input_walk-walk.ensures.sound is c.args.task.now.operation c.args.task.now.within in
     (t.fit.0 0 0 (omega arith)).0
 
@@ -50,8 +47,8 @@ dtype_of-requires-2 c =
     let p = c.args.task.now.plan in
     let k = c.args.task.now.op in
     let n = c.args.task.now.number in
-    let a = c.label_fold-fold.result in
-    let is : task_op c.args.task.now ≡ fold_by_labels a = sym c.operation.ensures.operation ∙ c.label_fold-fold.ensures in
+    let a = c.args.fold.now in
+    let is : task_op c.args.task.now ≡ fold_by_labels a = c.requires.fold in
     let t = group_task p k n a c.input_walk-walk.ensures.sound is c.args.task.now.operation c.args.task.now.within in
     (t.fit.1 0 0 (omega arith)).0
 
@@ -60,8 +57,8 @@ dtype_of-requires-3 c =
     let p = c.args.task.now.plan in
     let k = c.args.task.now.op in
     let n = c.args.task.now.number in
-    let a = c.label_fold-fold.result in
-    let is : task_op c.args.task.now ≡ fold_by_labels a = sym c.operation.ensures.operation ∙ c.label_fold-fold.ensures in
+    let a = c.args.fold.now in
+    let is : task_op c.args.task.now ≡ fold_by_labels a = c.requires.fold in
     let t = group_task p k n a c.input_walk-walk.ensures.sound is c.args.task.now.operation c.args.task.now.within in
     (t.fit.0 1 0 (omega arith)).0
 
@@ -70,8 +67,8 @@ group_region-requires-clause-types c =
     let p = c.args.task.now.plan in
     let k = c.args.task.now.op in
     let n = c.args.task.now.number in
-    let a = c.label_fold-fold.result in
-    let is : task_op c.args.task.now ≡ fold_by_labels a = sym c.operation.ensures.operation ∙ c.label_fold-fold.ensures in
+    let a = c.args.fold.now in
+    let is : task_op c.args.task.now ≡ fold_by_labels a = c.requires.fold in
     let t = group_task p k n a c.input_walk-walk.ensures.sound is c.args.task.now.operation c.args.task.now.within in
     rw (c.dtype_of.ensures, c.dtype_of-2.ensures) t.fit.2.types
 
@@ -80,8 +77,8 @@ group_region-requires-clause-axis c =
     let p = c.args.task.now.plan in
     let k = c.args.task.now.op in
     let n = c.args.task.now.number in
-    let a = c.label_fold-fold.result in
-    let is : task_op c.args.task.now ≡ fold_by_labels a = sym c.operation.ensures.operation ∙ c.label_fold-fold.ensures in
+    let a = c.args.fold.now in
+    let is : task_op c.args.task.now ≡ fold_by_labels a = c.requires.fold in
     let t = group_task p k n a c.input_walk-walk.ensures.sound is c.args.task.now.operation c.args.task.now.within in
     let walked = walk_same p k n a is t c.input_walk-walk.result c.input_walk-walk.ensures.walk in
     let sized : c.difference.result ≡ (region p k n a is t).dims = dims_same p k n a is t c.input_walk-walk.result c.difference.result walked c.difference.ensures in
@@ -92,8 +89,8 @@ group_region-requires-clause-input c =
     let p = c.args.task.now.plan in
     let k = c.args.task.now.op in
     let n = c.args.task.now.number in
-    let a = c.label_fold-fold.result in
-    let is : task_op c.args.task.now ≡ fold_by_labels a = sym c.operation.ensures.operation ∙ c.label_fold-fold.ensures in
+    let a = c.args.fold.now in
+    let is : task_op c.args.task.now ≡ fold_by_labels a = c.requires.fold in
     let t = group_task p k n a c.input_walk-walk.ensures.sound is c.args.task.now.operation c.args.task.now.within in
     let walked = walk_same p k n a is t c.input_walk-walk.result c.input_walk-walk.ensures.walk in
     let sized : c.difference.result ≡ (region p k n a is t).dims = dims_same p k n a is t c.input_walk-walk.result c.difference.result walked c.difference.ensures in
@@ -106,8 +103,8 @@ group_region-requires-clause-labels c =
     let p = c.args.task.now.plan in
     let k = c.args.task.now.op in
     let n = c.args.task.now.number in
-    let a = c.label_fold-fold.result in
-    let is : task_op c.args.task.now ≡ fold_by_labels a = sym c.operation.ensures.operation ∙ c.label_fold-fold.ensures in
+    let a = c.args.fold.now in
+    let is : task_op c.args.task.now ≡ fold_by_labels a = c.requires.fold in
     let t = group_task p k n a c.input_walk-walk.ensures.sound is c.args.task.now.operation c.args.task.now.within in
     let walked = walk_same p k n a is t c.input_walk-walk.result c.input_walk-walk.ensures.walk in
     let sized : c.difference.result ≡ (region p k n a is t).dims = dims_same p k n a is t c.input_walk-walk.result c.difference.result walked c.difference.ensures in
@@ -121,8 +118,8 @@ group_region-requires-clause-out c =
     let p = c.args.task.now.plan in
     let k = c.args.task.now.op in
     let n = c.args.task.now.number in
-    let a = c.label_fold-fold.result in
-    let is : task_op c.args.task.now ≡ fold_by_labels a = sym c.operation.ensures.operation ∙ c.label_fold-fold.ensures in
+    let a = c.args.fold.now in
+    let is : task_op c.args.task.now ≡ fold_by_labels a = c.requires.fold in
     let t = group_task p k n a c.input_walk-walk.ensures.sound is c.args.task.now.operation c.args.task.now.within in
     let walked = walk_same p k n a is t c.input_walk-walk.result c.input_walk-walk.ensures.walk in
     let sized : c.difference.result ≡ (region p k n a is t).dims = dims_same p k n a is t c.input_walk-walk.result c.difference.result walked c.difference.ensures in
@@ -133,13 +130,13 @@ returns-clause-values c =
     let p = c.args.task.now.plan in
     let k = c.args.task.now.op in
     let n = c.args.task.now.number in
-    let a = c.label_fold-fold.result in
-    let is : task_op c.args.task.now ≡ fold_by_labels a = sym c.operation.ensures.operation ∙ c.label_fold-fold.ensures in
+    let a = c.args.fold.now in
+    let is : task_op c.args.task.now ≡ fold_by_labels a = c.requires.fold in
     let t = group_task p k n a c.input_walk-walk.ensures.sound is c.args.task.now.operation c.args.task.now.within in
     let walked = walk_same p k n a is t c.input_walk-walk.result c.input_walk-walk.ensures.walk in
     let sized : c.difference.result ≡ (region p k n a is t).dims = dims_same p k n a is t c.input_walk-walk.result c.difference.result walked c.difference.ensures in
     let at : c.walk_bytes.result ≡ product (region p k n a is t).dims * size_of (type_at p.arrays a.source) = c.walk_bytes.ensures.bytes ∙ ap (walk_room p.arrays) walked in
-    let same : made_region c.label_fold-fold.result.kind c.label_fold-fold.result.axis c.label_fold-fold.result.groups c.dtype_of.result c.dtype_of-3.result c.dtype_of-2.result c.difference.result ≡ region p k n a is t =
+    let same : made_region c.args.fold.now.kind c.args.fold.now.axis c.args.fold.now.groups c.dtype_of.result c.dtype_of-3.result c.dtype_of-2.result c.difference.result ≡ region p k n a is t =
     λ i. made_region a.kind a.axis a.groups (c.dtype_of.ensures i) (c.dtype_of-3.ensures i) (c.dtype_of-2.ensures i) (sized i) in
     let front_long = c.split_at.ensures.front_len in
     let cut : Cut p k n a is t c.args.input.now c.split_at.result.0.now c.split_at.result.1.now = record {
@@ -155,12 +152,12 @@ returns-clause-elements c =
     let p = c.args.task.now.plan in
     let k = c.args.task.now.op in
     let n = c.args.task.now.number in
-    let a = c.label_fold-fold.result in
-    let is : task_op c.args.task.now ≡ fold_by_labels a = sym c.operation.ensures.operation ∙ c.label_fold-fold.ensures in
+    let a = c.args.fold.now in
+    let is : task_op c.args.task.now ≡ fold_by_labels a = c.requires.fold in
     let t = group_task p k n a c.input_walk-walk.ensures.sound is c.args.task.now.operation c.args.task.now.within in
     let walked = walk_same p k n a is t c.input_walk-walk.result c.input_walk-walk.ensures.walk in
     let sized : c.difference.result ≡ (region p k n a is t).dims = dims_same p k n a is t c.input_walk-walk.result c.difference.result walked c.difference.ensures in
-    let same : made_region c.label_fold-fold.result.kind c.label_fold-fold.result.axis c.label_fold-fold.result.groups c.dtype_of.result c.dtype_of-3.result c.dtype_of-2.result c.difference.result ≡ region p k n a is t =
+    let same : made_region c.args.fold.now.kind c.args.fold.now.axis c.args.fold.now.groups c.dtype_of.result c.dtype_of-3.result c.dtype_of-2.result c.difference.result ≡ region p k n a is t =
     λ i. made_region a.kind a.axis a.groups (c.dtype_of.ensures i) (c.dtype_of-3.ensures i) (c.dtype_of-2.ensures i) (sized i) in
     let has = subst (λ (x : LabelRegion). HasGroups x c.split_at.result.0.now c.split_at.result.1.now c.group_region.new.out) same c.group_region.ensures in
     elements_made p k n a is t c.split_at.result.0.now c.split_at.result.1.now c.group_region.new.out (c.group_region.auto.out ∙ c.requires.output) has

@@ -27,7 +27,8 @@ use Rattle.cu_task.proofs.Inside.{computed_calls, computed_tally, own_fault, own
 use Rattle.cu_task.proofs.JobViews.{job_is_view}
 use Rattle.cu_task.proofs.MadeParts.{alike_made, at_end, later_fault, next_walk}
 use Rattle.cu_task.proofs.PullTask.{of_pull}
-use Rattle.cu_task.proofs.StripTask.{fold_computes, fold_stores, folded_calls, folded_made, folded_tally, map_computes}
+use Rattle.cu_task.proofs.PartialFolds.{fold_computes, fold_stores}
+use Rattle.cu_task.proofs.StripTask.{folded_calls, folded_made, folded_tally, map_computes}
 use Rattle.cu_task.proofs.TaskKinds.{computing, none_stored}
 use Rattle.cu_task.proofs.TaskRegions.{scratch_read}
 use Rattle.cu_task.proofs.TaskRooms.{kept_computing}
