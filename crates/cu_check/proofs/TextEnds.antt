@@ -3,7 +3,8 @@ use Rattle.std.proofs.Common.{◌≡◌, ◌⊎◌, ℕ, ◌*◌, ◌≤◌, Lis
 use Rattle.cu_form.specs.Expression.{Expression}
 use Rattle.cu_expr.specs.declared.inputs.InputInfo.{InputInfo}
 use Rattle.cu_read.specs.Read.{expression_of}
-use Rattle.cu_store.specs.Steps.{Shown, NoChange, Steps}
+use Rattle.cu_store.specs.Steps.{Shown, NoChange, Steps, OnceEach}
+use Rattle.cu_store.proofs.Once.{once_then, once_few}
 use Rattle.cu_zarr.specs.Key.{metadata_key_of}
 use Rattle.cu_command.proofs.InputLemmas.{such_then}
 use Rattle.cu_command.proofs.SeenLemmas.{stepped, gone_before, within_then, within_more, within_few}
@@ -18,7 +19,7 @@ use Rattle.cu_command.specs.declared.job.JobFault.TheVariants as fault
 use Rattle.cu_command.specs.declared.status.Status.{Status}
 use Rattle.cu_command.specs.declared.status.Status.TheVariants.{OverLimit, BadMeta}
 use Rattle.cu_check.specs.Arrays.{compared_arrays, chunks_of_all}
-use Rattle.cu_check.specs.Check.{AreInputsRead, IsOutputRead, IsOutputFault, IsMisfit, Compares, ComparesWithin, ChecksWithin, metadata_keys}
+use Rattle.cu_check.specs.Check.{AreInputsRead, IsOutputRead, IsOutputFault, IsMisfit, Compares, ComparesWithin, ChecksWithin, metadata_keys, ComparesOnce, ChecksOnce}
 
 -- ---- the text
 
@@ -115,3 +116,22 @@ compared_within tries text job output a b c is_job is_out first next =
 -- of the text that was read
 pub text_within : (tries : ℕ) (src next : Stream) (text : List ℕ) (a b : Shown) → ReadsAll src.told next.told text → ComparesWithin tries text a b → ChecksWithin tries src next a b
 text_within tries src next text a b read within = inr (text, read, within)
+
+-- ---- each key called for once, and again only where a call failed
+
+inputs_calls_once : (text : List ℕ) (e : Expression) (a b : Shown) → expression_of text ≡ Ok e → OnceEach (2 * length (names_in e)) a b → OnceEach (2 * length (names_said text)) a b
+inputs_calls_once text e a b said once = rw (← said_names text e said) once
+
+pub inputs_once : (text : List ℕ) (e : Expression) (a b : Shown) → expression_of text ≡ Ok e → OnceEach (2 * length (names_in e)) a b → OnceEach (metadata_keys text) a b
+inputs_once text e a b said once = once_few (2 * length (names_said text)) (metadata_keys text) a b (omega arith) (inputs_calls_once text e a b said once)
+
+pub output_once : (text : List ℕ) (e : Expression) (a b c : Shown) → expression_of text ≡ Ok e → OnceEach (2 * length (names_in e)) a b → OnceEach 1 b c → OnceEach (metadata_keys text) a c
+output_once text e a b c said first next = once_then (2 * length (names_said text)) 1 a b c (inputs_calls_once text e a b said first) next
+
+pub compared_once : (text : List ℕ) (job : Job) (output : InputInfo) (a b c : Shown) → IsJob a text job → IsOutputRead a job.expr output
+    → OnceEach (metadata_keys text) a b → OnceEach (chunks_of_all (compared_arrays job output)) b c → ComparesOnce text a c
+compared_once text job output a b c is_job is_out first next =
+    inr (job, output, is_job, is_out, once_then (metadata_keys text) (chunks_of_all (compared_arrays job output)) a b c first next)
+
+pub text_once : (src next : Stream) (text : List ℕ) (a b : Shown) → ReadsAll src.told next.told text → ComparesOnce text a b → ChecksOnce src next a b
+text_once src next text a b read once = inr (text, read, once)

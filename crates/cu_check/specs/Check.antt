@@ -11,7 +11,7 @@ use Rattle.cu_semantics.specs.Typed.{type_of_node}
 use Rattle.cu_op.specs.Layout.{layout_view}
 use Rattle.cu_store.specs.Faults.{Rose}
 use Rattle.cu_store.specs.Held.{Contents, IsGone}
-use Rattle.cu_store.specs.Steps.{Shown, NoChange}
+use Rattle.cu_store.specs.Steps.{Shown, NoChange, OnceEach}
 use Rattle.cu_zarr.specs.Key.{metadata_key_of}
 use Rattle.cu_zarr.specs.Stored.{stored_element}
 use Rattle.cu_region.specs.Reading.{bytes_of}
@@ -201,6 +201,14 @@ ComparesWithin tries text entry now = WithinCalls (metadata_keys text * tries) e
 -- the same of the text that was read; where none was, no call was made
 abbrev pub ChecksWithin : ℕ → Stream → Stream → Shown → Shown → Type 0
 ChecksWithin tries src next entry now = WithinCalls 0 entry now ⊎ ReadsText src next (λ text. ComparesWithin tries text entry now)
+
+-- The same keys, each called for once, and again only where a call failed.
+abbrev pub ComparesOnce : List ℕ → Shown → Shown → Type 0
+ComparesOnce text entry now = OnceEach (metadata_keys text) entry now
+    ⊎ OfTyped text entry (λ job output. OnceEach (metadata_keys text + chunks_of_all (compared_arrays job output)) entry now)
+
+abbrev pub ChecksOnce : Stream → Stream → Shown → Shown → Type 0
+ChecksOnce src next entry now = WithinCalls 0 entry now ⊎ ReadsText src next (λ text. ComparesOnce text entry now)
 
 -- nothing was printed but by the line
 abbrev pub PrintsLine : Status → Option (List ℕ) → Option (List ℕ) → Type 0

@@ -3,7 +3,7 @@ ghost use Rattle.std.specs.Prelude.{◌≡◌, ◌+◌, ◌*◌, ◌≤◌, ◌^
 ghost use Rattle.cu_num.specs.Dtype.{size_of};
 ghost use Rattle.cu_name.specs.Name.{is_name};
 ghost use Rattle.cu_shape.specs.Index.{product};
-ghost use Rattle.cu_store.specs.Steps.{Shown, NoChange};
+ghost use Rattle.cu_store.specs.Steps.{Shown, NoChange, OnceEach};
 ghost use Rattle.cu_command.specs.Seen.{Stepped, WithinCalls};
 ghost use Rattle.cu_command.specs.Stored.{IsArrayLayout};
 ghost use Rattle.cu_check.specs.Arrays.{input_chunk_count};
@@ -49,6 +49,7 @@ pub(crate) fn read_array<D: Depot>(
     ensures step { Stepped NoChange (D.shown depot.old) (D.shown depot.new) }
     ensures cause { IfErr result (IsArrayFault (retries + 1) (D.shown depot.old) (D.shown depot.new) array.now) }
     ensures calls { WithinCalls (input_chunk_count array.now * (retries + 1)) (D.shown depot.old) (D.shown depot.new) }
+    ensures once { OnceEach (input_chunk_count array.now) (D.shown depot.old) (D.shown depot.new) }
 {
     let layout = &array.layout;
     let bytes = element_count(layout) * u64::from(size(layout.dtype));
@@ -116,6 +117,7 @@ pub(crate) fn read_plain<D: Depot>(
     ensures step { Stepped NoChange (D.shown depot.old) (D.shown depot.new) }
     ensures cause { IfErr result (IsArrayFault (retries + 1) (D.shown depot.old) (D.shown depot.new) array.now) }
     ensures calls { WithinCalls (input_chunk_count array.now * (retries + 1)) (D.shown depot.old) (D.shown depot.new) }
+    ensures once { OnceEach (input_chunk_count array.now) (D.shown depot.old) (D.shown depot.new) }
 {
     let bytes = match read_array(alloc, depot, array, retries) {
         Ok(bytes) => bytes,

@@ -5,7 +5,7 @@ ghost use Rattle.cu_shape.specs.Index.{product};
 ghost use Rattle.cu_grid.specs.Counts.{counts_of};
 ghost use Rattle.cu_grid.specs.Grid.{IsCoordinate, coordinate_of};
 ghost use Rattle.cu_region.specs.Reading.{bytes_of, key_at};
-ghost use Rattle.cu_store.specs.Steps.{Shown, NoChange};
+ghost use Rattle.cu_store.specs.Steps.{Shown, NoChange, OnceEach};
 ghost use Rattle.cu_command.specs.Chunks.{IsStoredArray, IsChunkFault};
 ghost use Rattle.cu_command.specs.Seen.{Stepped, WithinCalls};
 ghost use Rattle.cu_check.specs.Arrays.{input_chunk_count};
@@ -60,6 +60,7 @@ fn read_numbered<D: Depot>(
     ensures step { Stepped NoChange (D.shown depot.old) (D.shown depot.new) }
     ensures cause { IfErr result (IsChunkFault (retries + 1) (D.shown depot.old) (D.shown depot.new) info.now.layout (λ key. key ≡ key_at info.now (coordinate_of info.now.layout.grid number))) }
     ensures calls { WithinCalls (retries + 1) (D.shown depot.old) (D.shown depot.new) }
+    ensures once { OnceEach 1 (D.shown depot.old) (D.shown depot.new) }
 {
     let coord = info.layout.grid.coordinate(number);
     match read_stored_chunk(depot, info, &coord, retries, chunk) {
@@ -87,6 +88,7 @@ pub(crate) fn read_chunks<D: Depot>(
     ensures step { Stepped NoChange (D.shown depot.old) (D.shown depot.new) }
     ensures cause { IfErr result (IsArrayFault (retries + 1) (D.shown depot.old) (D.shown depot.new) (input_of info.now)) }
     ensures calls { WithinCalls (input_chunk_count (input_of info.now) * (retries + 1)) (D.shown depot.old) (D.shown depot.new) }
+    ensures once { OnceEach (input_chunk_count (input_of info.now)) (D.shown depot.old) (D.shown depot.new) }
 {
     for number in 0..info.layout.grid.count() {
         match read_numbered(depot, info, number, retries, chunk, all) {

@@ -1,12 +1,12 @@
 //! The command: the text, the metadata, the chunks, the elements, and the line.
 ghost use Rattle.std.specs.Prelude.{◌≡◌, ◌+◌, ◌*◌, All, Ok, IfErr, OnOk};
 ghost use Rattle.cu_expr.specs.Typing.{typed};
-ghost use Rattle.cu_store.specs.Steps.{Shown, NoChange};
+ghost use Rattle.cu_store.specs.Steps.{Shown, NoChange, OnceEach};
 ghost use Rattle.cu_command.specs.Seen.{Stepped, WithinCalls, stream, seen};
 ghost use Rattle.cu_command.specs.Stored.{IsArrayLayout};
 ghost use Rattle.cu_command.specs.declared.status.Status.TheVariants.{Unequal};
 ghost use Rattle.cu_check.specs.Arrays.{chunks_of_all, compared_arrays};
-ghost use Rattle.cu_check.specs.Check.{IsLikeStoredNode, IsEqual, WhereThere, IsCompareFault, Compares, ComparesWithin, PrintsLine, Checked, ChecksWithin};
+ghost use Rattle.cu_check.specs.Check.{IsLikeStoredNode, IsEqual, WhereThere, IsCompareFault, Compares, ComparesWithin, ComparesOnce, PrintsLine, Checked, ChecksWithin, ChecksOnce};
 
 use crate::arrays::{element_count, read_array};
 use crate::compare::{Difference, compare};
@@ -47,6 +47,7 @@ fn compare_output<D: Depot>(
     ensures cause { IfErr result (λ status. (entry : Shown) → Stepped NoChange entry (D.shown depot.old)
         → IsCompareFault (retries + 1) entry (D.shown depot.old) (D.shown depot.new) compared.now status) }
     ensures calls { WithinCalls (chunks_of_all (compared_arrays compared.now.job compared.now.output) * (retries + 1)) (D.shown depot.old) (D.shown depot.new) }
+    ensures once { OnceEach (chunks_of_all (compared_arrays compared.now.job compared.now.output)) (D.shown depot.old) (D.shown depot.new) }
 {
     let job = &compared.job;
     let layout = &compared.output.layout;
@@ -81,6 +82,7 @@ fn check_text<W: Sink, D: Depot>(
     ensures printed { PrintsLine result (W.written out.old) (W.written out.new) }
     ensures step { Stepped NoChange (D.shown depot.old) (D.shown depot.new) }
     ensures calls { ComparesWithin (retries + 1) text.now (D.shown depot.old) (D.shown depot.new) }
+    ensures once { ComparesOnce text.now (D.shown depot.old) (D.shown depot.new) }
 {
     let compared = match read_compared(alloc, depot, text, retries) {
         Ok(compared) => compared,
@@ -120,6 +122,7 @@ pub fn check<R: Source, W: Sink, D: Depot>(
     ensures answer { Checked retries (stream (R.left src.old) (R.faults src.old)) (stream (R.left src.new) (R.faults src.new))
         (seen (stream (W.written out.old) (W.faults out.old)) (D.shown depot.old)) (seen (stream (W.written out.new) (W.faults out.new)) (D.shown depot.new)) result }
     ensures calls { ChecksWithin (retries + 1) (stream (R.left src.old) (R.faults src.old)) (stream (R.left src.new) (R.faults src.new)) (D.shown depot.old) (D.shown depot.new) }
+    ensures once { ChecksOnce (stream (R.left src.old) (R.faults src.old)) (stream (R.left src.new) (R.faults src.new)) (D.shown depot.old) (D.shown depot.new) }
 {
     match read_all(alloc, src) {
         Ok(text) => check_text(alloc, retries, &text, out, depot),

@@ -3,7 +3,7 @@ ghost use Rattle.std.specs.Prelude.{◌≡◌, ◌+◌, ◌*◌, ◌++◌, ◌�
 ghost use Rattle.cu_form.specs.Expression.{IsExpression};
 ghost use Rattle.cu_form.specs.Form.{in_ranges};
 ghost use Rattle.cu_expr.specs.declared.inputs.InputInfo.{InputInfo as Input};
-ghost use Rattle.cu_store.specs.Steps.{Shown, NoChange};
+ghost use Rattle.cu_store.specs.Steps.{Shown, NoChange, OnceEach};
 ghost use Rattle.cu_command.specs.Seen.{Stepped, WithinCalls};
 ghost use Rattle.cu_command.specs.Stored.{IsArrayLayout};
 ghost use Rattle.cu_check.specs.Arrays.{form_arrays, arrays_of_nodes, chunks_of_all};
@@ -33,6 +33,7 @@ fn read_node<D: Depot>(
     ensures step { Stepped NoChange (D.shown depot.old) (D.shown depot.new) }
     ensures cause { IfErr result (λ status. (a : Input) × (form_arrays inputs.now form.now ≡ a ∷ []) × IsArrayFault (retries + 1) (D.shown depot.old) (D.shown depot.new) a status) }
     ensures calls { WithinCalls (chunks_of_all (form_arrays inputs.now form.now) * (retries + 1)) (D.shown depot.old) (D.shown depot.new) }
+    ensures once { OnceEach (chunks_of_all (form_arrays inputs.now form.now)) (D.shown depot.old) (D.shown depot.new) }
 {
     let Form::Input { name } = form else {
         return Ok(());
@@ -67,6 +68,7 @@ pub(crate) fn read_nodes<D: Depot>(
     ensures cause { IfErr result (λ status. (entry : Shown) → Stepped NoChange entry (D.shown depot.old)
         → IsListFault (retries + 1) entry (D.shown depot.old) (D.shown depot.new) (arrays_of_nodes inputs.now expr.now.nodes) status) }
     ensures calls { WithinCalls (chunks_of_all (arrays_of_nodes inputs.now expr.now.nodes) * (retries + 1)) (D.shown depot.old) (D.shown depot.new) }
+    ensures once { OnceEach (chunks_of_all (arrays_of_nodes inputs.now expr.now.nodes)) (D.shown depot.old) (D.shown depot.new) }
 {
     let mut arrays = Vec::new(alloc);
     for node in expr.nodes() {

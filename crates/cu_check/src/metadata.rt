@@ -1,7 +1,7 @@
 //! What is compared: the expression of a text with its types, and the output as its metadata says.
 ghost use Rattle.std.specs.Prelude.{◌≡◌, ◌+◌, ◌*◌, ◌≤◌, ◌↔◌, IsTrue, Ok, length, IfErr, IfOk, OnOk};
 ghost use Rattle.cu_expr.specs.Typing.{typed};
-ghost use Rattle.cu_store.specs.Steps.{NoChange, Steps};
+ghost use Rattle.cu_store.specs.Steps.{NoChange, Steps, OnceEach};
 ghost use Rattle.cu_zarr.specs.Key.{metadata_key_of};
 ghost use Rattle.cu_command.specs.Job.{status_of, IsJob};
 ghost use Rattle.cu_command.specs.Seen.{Stream, Stepped, WithinCalls, seen};
@@ -41,6 +41,7 @@ fn read_output<D: Depot>(
     ensures layout { IfOk result (λ output. IsArrayLayout output.layout) }
     ensures found { IfOk result (λ output. HoldsLayout (D.shown depot.new).held (metadata_key_of expr.now.store_as) output.layout) }
     ensures step { Steps NoChange 0 (retries + 1) (D.shown depot.old) (D.shown depot.new) }
+    ensures once { OnceEach 1 (D.shown depot.old) (D.shown depot.new) }
     ensures cause { IfErr result (λ fault. IsMetadataFault (retries + 1) (D.shown depot.old).faults (D.shown depot.new).faults (D.shown depot.new).held expr.now.store_as (status_of fault)) }
 {
     let Ok(mut room) = metadata_room(alloc) else {
@@ -61,6 +62,7 @@ fn read_typed<D: Depot>(
     ensures step { Stepped NoChange (D.shown depot.old) (D.shown depot.new) }
     ensures cause { (out next : Stream) → IfErr result (Compares (retries + 1) text.now (seen out (D.shown depot.old)) (seen next (D.shown depot.new))) }
     ensures calls { WithinCalls (metadata_keys text.now * (retries + 1)) (D.shown depot.old) (D.shown depot.new) }
+    ensures once { OnceEach (metadata_keys text.now) (D.shown depot.old) (D.shown depot.new) }
 {
     let said = match said_in(alloc, text) {
         Ok(said) => said,
@@ -147,6 +149,7 @@ pub(crate) fn read_compared<D: Depot>(
     ensures step { Stepped NoChange (D.shown depot.old) (D.shown depot.new) }
     ensures cause { (out next : Stream) → IfErr result (Compares (retries + 1) text.now (seen out (D.shown depot.old)) (seen next (D.shown depot.new))) }
     ensures calls { WithinCalls (metadata_keys text.now * (retries + 1)) (D.shown depot.old) (D.shown depot.new) }
+    ensures once { OnceEach (metadata_keys text.now) (D.shown depot.old) (D.shown depot.new) }
 {
     let compared = match read_typed(alloc, depot, text, retries) {
         Ok(compared) => compared,

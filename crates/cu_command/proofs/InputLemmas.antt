@@ -9,7 +9,8 @@ use Rattle.cu_form.specs.declared.expr.Node.{Node}
 use Rattle.cu_form.specs.declared.form.Form.{Form}
 use Rattle.cu_op.specs.declared.layout.Layout.{Layout}
 use Rattle.cu_store.specs.Held.{Contents, Write, Holds, IsAmong, IsGone}
-use Rattle.cu_store.specs.Steps.{Shown, NoChange, OrLate, IsChangedBy, Lands, Steps}
+use Rattle.cu_store.specs.Steps.{Shown, NoChange, OrLate, IsChangedBy, Lands, Steps, OnceEach}
+use Rattle.cu_store.proofs.Once.{once_then, once_few}
 use Rattle.cu_store.proofs.Steps.{steps_same, steps_then, steps_wider}
 use Rattle.cu_zarr.specs.Key.{metadata_key_of, zarray_key_of}
 use Rattle.cu_command.proofs.SeenLemmas.{stepped, gone_before}
@@ -137,6 +138,9 @@ more_calls t n m h = grind arith
 pub step_more : {tries : ℕ} {entry mid now : Shown} (n m : ℕ) → n + 1 ≤ m → Steps NoChange 0 (tries * n) entry mid → Steps NoChange 0 tries mid now → Steps NoChange 0 (tries * m) entry now
 step_more {tries = tries} n m within first second = steps_wider (λ key value own. own) (omega arith) (more_calls tries n m within) (steps_then first second)
 
+pub once_more : (n m : ℕ) (entry mid now : Shown) → n + 1 ≤ m → OnceEach (2 * n) entry mid → OnceEach 2 mid now → OnceEach (2 * m) entry now
+once_more n m entry mid now within first second = once_few (2 * n + 2) (2 * m) entry now (omega arith) (once_then (2 * n) 2 entry mid now first second)
+
 pub no_step : {entry : Shown} (n : ℕ) → Steps NoChange 0 n entry entry
 no_step {entry = entry} n = steps_wider (λ key value own. own) (omega arith) (omega arith) (steps_same NoChange entry)
 
@@ -148,15 +152,17 @@ count_of old x rest fresh =
     rw (new_name old x rest fresh) (omega (arith, long, same))
 
 pub read_none : {tries : ℕ} {entry : Shown} → HasRead tries entry entry []
-read_none {tries = tries} {entry = entry} = record { read = All-nil (IsReadAt entry); step = no_step (tries * 0) }
+read_none {tries = tries} {entry = entry} = record { read = All-nil (IsReadAt entry); step = no_step (tries * 0); once = omega arith }
 
 pub read_more : {tries : ℕ} (entry mid now : Shown) (old new : List InputInfo) (i : InputInfo) → HasRead tries entry mid old → new ≡ old ++ i ∷ [] → IsArrayLayout i.layout
-    → FindsLayout mid.held now.held i.name i.layout → Steps NoChange 0 tries mid now → HasRead tries entry now new
-read_more {tries = tries} entry mid now old new i so_far pushed layout found step =
+    → FindsLayout mid.held now.held i.name i.layout → Steps NoChange 0 tries mid now → OnceEach 2 mid now → HasRead tries entry now new
+read_more {tries = tries} entry mid now old new i so_far pushed layout found step once =
     let whole : Steps NoChange 0 (tries * (length old + 1)) entry now = step_more (length old) (length old + 1) (omega arith) so_far.step step in
+    let both : OnceEach (2 * (length old + 1)) entry now = once_more (length old) (length old + 1) entry mid now (omega arith) so_far.once once in
     subst (λ (is : List InputInfo). HasRead tries entry now is) (sym pushed) (record {
       read = All-push (IsReadAt entry) old i so_far.read (read_at entry now i whole layout (finds_layout entry mid now i.name so_far.step i.layout found));
       step = rw length-append whole;
+      once = rw length-append both;
     })
 
 -- ---- faults

@@ -13,7 +13,7 @@ use Rattle.cu_read.specs.Read.{expression_of}
 use Rattle.cu_read.specs.declared.faults.ReadFault.{ReadFault}
 use Rattle.cu_store.specs.Faults.{Rose}
 use Rattle.cu_store.specs.Held.{Contents}
-use Rattle.cu_store.specs.Steps.{Shown, NoChange, Steps}
+use Rattle.cu_store.specs.Steps.{Shown, NoChange, Steps, OnceEach}
 use Rattle.cu_v2.specs.Zarray.{zarray_layout}
 use Rattle.cu_zarr.specs.Key.{metadata_key_of, zarray_key_of}
 use Rattle.cu_zarr.specs.Layout.{ArrayLayout}
@@ -53,6 +53,10 @@ untyped_fault tries text e inputs entry now other said names read h = absurd h
 pub said_step : (tries : ℕ) (text : List ℕ) (e : Expression) (entry now : Shown) → expression_of text ≡ Ok e → Steps NoChange 0 (tries * length (names_in e)) entry now
     → Steps NoChange 0 (tries * length (names_said text)) entry now
 said_step tries text e entry now said step = subst (λ (names : List (List ℕ)). Steps NoChange 0 (tries * length names) entry now) (sym (said_names text e said)) step
+
+pub said_once : (text : List ℕ) (e : Expression) (entry now : Shown) → expression_of text ≡ Ok e → OnceEach (2 * length (names_in e)) entry now
+    → OnceEach (2 * length (names_said text)) entry now
+said_once text e entry now said once = subst (λ (names : List (List ℕ)). OnceEach (2 * length names) entry now) (sym (said_names text e said)) once
 
 pub layouts_of : (entry : Shown) (inputs listed : List InputInfo) → listed ≡ inputs → All (IsReadAt entry) inputs → All (λ i. IsArrayLayout i.layout) listed
 layouts_of entry inputs listed same read =

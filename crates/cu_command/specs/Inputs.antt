@@ -7,7 +7,7 @@ use Rattle.cu_form.specs.declared.expr.Node.{Node}
 use Rattle.cu_form.specs.declared.form.Form.{Form}
 use Rattle.cu_store.specs.Faults.{Rose}
 use Rattle.cu_store.specs.Held.{Holds, IsAmong}
-use Rattle.cu_store.specs.Steps.{NoChange, Shown, Steps}
+use Rattle.cu_store.specs.Steps.{NoChange, Shown, Steps, OnceEach}
 use Rattle.cu_zarr.specs.Key.{metadata_key_of, zarray_key_of}
 use Rattle.cu_command.specs.Stored.{IsArrayLayout, HoldsLayout, FindsRefused, StoresLayout, StoresRefused, HasNoMetadata, IsMetadataAsked}
 use Rattle.cu_command.specs.declared.job.JobFault.{JobFault}
@@ -102,7 +102,8 @@ IsMetadataStatus (status.BadMeta name code) = Unit {0}
 IsMetadataStatus status.NoMemory = Unit {0}
 IsMetadataStatus other = ⊥
 
--- so far these inputs were read, each by at most so many calls
+-- so far these inputs were read, each by at most so many calls, and again only where one failed: both keys of its metadata once
 pub record HasRead (tries : ℕ) (entry now : Shown) (inputs : List InputInfo) : Type 0 where
   pub read : All (IsReadAt entry) inputs
   pub step : Steps NoChange 0 (tries * length inputs) entry now
+  pub once : OnceEach (2 * length inputs) entry now

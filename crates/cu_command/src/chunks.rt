@@ -1,7 +1,7 @@
 //! A chunk of a stored array, read again where the store failed.
 ghost use Rattle.std.specs.Prelude.{◌≡◌, ◌+◌, ◌<◌, length, All, IfErr, OnOk};
 ghost use Rattle.cu_region.specs.Reading.{bytes_of, key_at};
-ghost use Rattle.cu_store.specs.Steps.{NoChange};
+ghost use Rattle.cu_store.specs.Steps.{NoChange, OnceEach};
 ghost use Rattle.cu_command.specs.Chunks.{IsStoredArray, HasHeldChunk, IsChunkFault, read_end};
 ghost use Rattle.cu_command.specs.Seen.{Stepped, WithinCalls};
 
@@ -26,6 +26,7 @@ fn read_once<D: Depot>(
     ensures step { Stepped NoChange (D.shown depot.old) (D.shown depot.new) }
     ensures cause { IfErr result (IsChunkFault 1 (D.shown depot.old) (D.shown depot.new) info.now.layout (λ key. key ≡ key_at info.now coord.now)) }
     ensures calls { WithinCalls 1 (D.shown depot.old) (D.shown depot.new) }
+    ensures once { OnceEach 1 (D.shown depot.old) (D.shown depot.new) }
 {
     match read_chunk::<InDepot<D>>(&(), depot, info, coord, chunk) {
         Ok(()) => Ok(()),
@@ -67,6 +68,7 @@ pub fn read_stored_chunk<D: Depot>(
     ensures step { Stepped NoChange (D.shown depot.old) (D.shown depot.new) }
     ensures cause { IfErr result (IsChunkFault (retries + 1) (D.shown depot.old) (D.shown depot.new) info.now.layout (λ key. key ≡ key_at info.now coord.now)) }
     ensures calls { WithinCalls (retries + 1) (D.shown depot.old) (D.shown depot.new) }
+    ensures once { OnceEach 1 (D.shown depot.old) (D.shown depot.new) }
 {
     for _ in 0..retries {
         match read_once(depot, info, coord, chunk) {

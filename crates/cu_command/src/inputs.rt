@@ -3,7 +3,7 @@ ghost use Rattle.std.specs.Prelude.{◌≡◌, ℕ, ◌+◌, ◌*◌, List, IfEr
 ghost use Rattle.std.specs.List.{list_any};
 ghost use Rattle.cu_form.specs.Form.{in_ranges};
 ghost use Rattle.cu_name.specs.Name.{is_name};
-ghost use Rattle.cu_store.specs.Steps.{NoChange, Shown, Steps};
+ghost use Rattle.cu_store.specs.Steps.{NoChange, Shown, Steps, OnceEach};
 ghost use Rattle.cu_zarr.specs.Key.{metadata_key_of};
 ghost use Rattle.cu_command.specs.Inputs.{name_before, names_in, names_of, names_from, IsReadAt, IsInputFault, HasRead, IsMetadataStatus};
 ghost use Rattle.cu_command.specs.Job.{status_of};
@@ -54,6 +54,7 @@ pub fn read_input<D: Depot>(
     ensures layout { IfOk result (λ i. IsArrayLayout i.layout) }
     ensures found { IfOk result (λ i. FindsLayout (D.shown depot.old).held (D.shown depot.new).held name.now i.layout) }
     ensures step { Steps NoChange 0 (2 * (retries + 1)) (D.shown depot.old) (D.shown depot.new) }
+    ensures once { OnceEach 2 (D.shown depot.old) (D.shown depot.new) }
     ensures cause { IfErr result (λ fault. IsFindFault (retries + 1) (D.shown depot.old) (D.shown depot.new) name.now (status_of fault)) }
 {
     match find_layout(alloc, depot, &key_of_name(name), retries, room) {
@@ -81,6 +82,7 @@ pub fn read_written<D: Depot>(
     ensures layout { IfOk result (λ i. IsArrayLayout i.layout) }
     ensures found { IfOk result (λ i. HoldsLayout (D.shown depot.new).held (metadata_key_of name.now) i.layout) }
     ensures step { Steps NoChange 0 (retries + 1) (D.shown depot.old) (D.shown depot.new) }
+    ensures once { OnceEach 1 (D.shown depot.old) (D.shown depot.new) }
     ensures cause { IfErr result (λ fault. IsMetadataFault (retries + 1) (D.shown depot.old).faults (D.shown depot.new).faults (D.shown depot.new).held name.now (status_of fault)) }
 {
     match read_layout(alloc, depot, &key_of_name(name), retries, room) {
@@ -110,6 +112,8 @@ fn read_next<D: Depot>(
         → IfErr result (IsInputFault (retries + 1) (names_from (names_of inputs.old.items) (name_before form.now rest)) entry (D.shown depot.new)) }
     ensures step { (entry : Shown) (rest : List (List ℕ)) → HasRead (2 * (retries + 1)) entry (D.shown depot.old) inputs.old.items
         → OnErr result (Steps NoChange 0 (2 * (retries + 1) * length (names_from (names_of inputs.old.items) (name_before form.now rest))) entry (D.shown depot.new)) }
+    ensures once { (entry : Shown) (rest : List (List ℕ)) → HasRead (2 * (retries + 1)) entry (D.shown depot.old) inputs.old.items
+        → OnErr result (OnceEach (2 * length (names_from (names_of inputs.old.items) (name_before form.now rest))) entry (D.shown depot.new)) }
 {
     let Form::Input { name } = form else {
         return Ok(());
@@ -138,6 +142,7 @@ pub fn read_inputs<D: Depot>(
     ensures names { IfOk result (λ inputs. names_of inputs.items ≡ names_in expr.now) }
     ensures read { IfOk result (λ inputs. All (IsReadAt (D.shown depot.old)) inputs.items) }
     ensures step { Steps NoChange 0 (2 * (retries + 1) * length (names_in expr.now)) (D.shown depot.old) (D.shown depot.new) }
+    ensures once { OnceEach (2 * length (names_in expr.now)) (D.shown depot.old) (D.shown depot.new) }
     ensures cause { IfErr result (IsInputFault (retries + 1) (names_in expr.now) (D.shown depot.old) (D.shown depot.new)) }
 {
     let Ok(mut room) = metadata_room(alloc) else {

@@ -2,7 +2,7 @@
 ghost use Rattle.std.specs.Prelude.{◌≡◌, ◌+◌, ◌*◌, Some, Ok, IfErr, IfOk, length, string_bytes, All};
 ghost use Rattle.cu_read.specs.Read.{compact_of, expression_of};
 ghost use Rattle.cu_expr.specs.Typing.{typed};
-ghost use Rattle.cu_store.specs.Steps.{NoChange, Steps};
+ghost use Rattle.cu_store.specs.Steps.{NoChange, Steps, OnceEach};
 ghost use Rattle.cu_command.specs.Stored.{IsArrayLayout};
 ghost use Rattle.cu_command.specs.Job.{names_said, IsUnread, IsUntyped, IsJob, IsJobFault, IsTypable, StoodStill};
 
@@ -105,6 +105,7 @@ pub fn read_job<D: Depot>(
 ) -> Result<Job, JobFault>
     ensures job { IfOk result (IsJob (D.shown depot.old) text.now) }
     ensures step { Steps NoChange 0 (2 * (retries + 1) * length (names_said text.now)) (D.shown depot.old) (D.shown depot.new) }
+    ensures once { OnceEach (2 * length (names_said text.now)) (D.shown depot.old) (D.shown depot.new) }
     ensures cause { IfErr result (IsJobFault (retries + 1) text.now (D.shown depot.old) (D.shown depot.new)) }
     ensures complete { IsTypable (D.shown depot.old) text.now → StoodStill (D.shown depot.old).faults (D.shown depot.new).faults → IfErr result (λ fault. fault ≡ JobFault.NoMemory) }
 {

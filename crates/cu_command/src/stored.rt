@@ -1,7 +1,7 @@
 //! The layout of a stored array, by its metadata.
 ghost use Rattle.std.specs.Prelude.{◌≡◌, ◌+◌, ◌*◌, ◌≤◌, IfErr, IfOk, length, take};
 ghost use Rattle.cu_meta.specs.Fault.{fault_view};
-ghost use Rattle.cu_store.specs.Steps.{NoChange, Steps};
+ghost use Rattle.cu_store.specs.Steps.{NoChange, Steps, OnceEach};
 ghost use Rattle.cu_zarr.specs.Key.{metadata_key_of, zarray_key_of};
 ghost use Rattle.cu_name.specs.Name.{IsArrayName};
 ghost use Rattle.cu_command.specs.Stored.{IsArrayLayout, IsMetadata, IsZarrayOf, HoldsFront, HoldsLayout, HoldsZarray, FindsLayout, IsTextFault, IsTextRefusal, IsRefusedText, IsRefusedZarray, IsMetadataFault, IsZarrayFault, IsFindFault, code_of};
@@ -68,6 +68,7 @@ fn read_text<D: Depot>(
     ensures within { IfOk result (λ len. len ≤ 1048577) }
     ensures found { IfOk result (λ len. HoldsFront (D.shown depot.new).held key.now (take len buf.new)) }
     ensures step { Steps NoChange 1 (retries + 1) (D.shown depot.old) (D.shown depot.new) }
+    ensures once { OnceEach 1 (D.shown depot.old) (D.shown depot.new) }
     ensures cause { IfErr result (IsTextFault (retries + 1) (D.shown depot.old) (D.shown depot.new) name.now key.now) }
 {
     match get_tries(depot, key, buf, retries) {
@@ -133,6 +134,7 @@ pub fn read_layout<D: Depot>(
     ensures input { IfOk result IsArrayLayout }
     ensures found { IfOk result (HoldsLayout (D.shown depot.new).held (metadata_key_of name.now)) }
     ensures step { Steps NoChange 1 (retries + 1) (D.shown depot.old) (D.shown depot.new) }
+    ensures once { OnceEach 1 (D.shown depot.old) (D.shown depot.new) }
     ensures cause { IfErr result (IsMetadataFault (retries + 1) (D.shown depot.old).faults (D.shown depot.new).faults (D.shown depot.new).held name.now) }
 {
     match read_text(depot, name, &metadata_key(name), retries, buf) {
@@ -155,6 +157,7 @@ fn read_layout_of_v2<D: Depot>(
     ensures input { IfOk result IsArrayLayout }
     ensures found { IfOk result (HoldsZarray (D.shown depot.new).held (zarray_key_of name.now)) }
     ensures step { Steps NoChange 1 (retries + 1) (D.shown depot.old) (D.shown depot.new) }
+    ensures once { OnceEach 1 (D.shown depot.old) (D.shown depot.new) }
     ensures cause { IfErr result (IsZarrayFault (retries + 1) (D.shown depot.old) (D.shown depot.new) name.now) }
 {
     match read_text(depot, name, &zarray_key(name), retries, buf) {
@@ -178,6 +181,7 @@ pub fn find_layout<D: Depot>(
     ensures input { IfOk result IsArrayLayout }
     ensures found { IfOk result (FindsLayout (D.shown depot.old).held (D.shown depot.new).held name.now) }
     ensures step { Steps NoChange 1 (2 * (retries + 1)) (D.shown depot.old) (D.shown depot.new) }
+    ensures once { OnceEach 2 (D.shown depot.old) (D.shown depot.new) }
     ensures cause { IfErr result (IsFindFault (retries + 1) (D.shown depot.old) (D.shown depot.new) name.now) }
 {
     match read_layout(alloc, depot, name, retries, buf) {

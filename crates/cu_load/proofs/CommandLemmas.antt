@@ -1,7 +1,8 @@
 -- From the parts of the call to what it answers.
 use Rattle.std.proofs.Common.{◌≡◌, ℕ, ◌+◌, ◌*◌, arith, List, Some, Ok, inl, inr, refl, subst}
 use Rattle.cu_store.specs.Held.{Write, IsAmong}
-use Rattle.cu_store.specs.Steps.{Shown, NoChange, OrLate, AllLateIn}
+use Rattle.cu_store.specs.Steps.{Shown, NoChange, OrLate, AllLateIn, OnceEach}
+use Rattle.cu_store.proofs.Once.{once_then, once_few}
 use Rattle.cu_command.proofs.SeenLemmas.{stepped_none, stepped_then, within_then, within_few}
 use Rattle.cu_command.specs.Seen.{Stream, Seen, Stepped, WithinCalls, seen}
 use Rattle.cu_command.specs.Streams.{ReadsAll}
@@ -60,3 +61,6 @@ loaded retries src next old new text a status read gives stored = absurd stored
 -- how many calls are made: for three keys, and then for the chunks and the metadata
 pub load_calls : (chunks tries : ℕ) (a b c : Shown) → WithinCalls (3 * tries) a b → WithinCalls ((chunks + 1) * tries) b c → WithinCalls ((chunks + 4) * tries) a c
 load_calls chunks tries a b c first next = within_few (3 + (chunks + 1)) (chunks + 4) tries a c (omega arith) (within_then 3 (chunks + 1) tries a b c first next)
+
+pub load_once : (chunks : ℕ) (a b c : Shown) → OnceEach 3 a b → OnceEach (chunks + 1) b c → OnceEach (chunks + 4) a c
+load_once chunks a b c first next = once_few (3 + (chunks + 1)) (chunks + 4) a c (omega arith) (once_then 3 (chunks + 1) a b c first next)

@@ -13,7 +13,7 @@ use Rattle.cu_zarr.specs.Stored.{stored_element}
 use Rattle.cu_codec.specs.Parts.{part_at}
 use Rattle.cu_store.specs.Faults.{Rose}
 use Rattle.cu_store.specs.Held.{Contents, Write, IsAmong, Holds, IsHeldIn}
-use Rattle.cu_store.specs.Steps.{Shown, Changes, NoChange, PutOf}
+use Rattle.cu_store.specs.Steps.{Shown, Changes, NoChange, PutOf, OnceEach}
 use Rattle.cu_command.specs.Streams.{ReadsAll, WroteFront}
 use Rattle.cu_command.specs.Seen.{Stream, Seen, Stepped, WithinCalls, WroteNothing}
 use Rattle.cu_command.specs.declared.status.Status.{Status}
@@ -168,6 +168,10 @@ Loaded retries src next old new status = ⊥
 abbrev pub LoadsWithin : ℕ → Option (List ℕ) → Option (List ℕ) → Shown → Shown → Type 0
 LoadsWithin retries src next old new =
     WithinCalls 0 old new ⊎ ReadsArray src next (λ a. WithinCalls ((chunks_in a + 4) * (retries + 1)) old new)
+
+-- The same keys, each called for once, and again only where a call failed.
+abbrev pub LoadsOnce : Option (List ℕ) → Option (List ℕ) → Shown → Shown → Type 0
+LoadsOnce src next old new = WithinCalls 0 old new ⊎ ReadsArray src next (λ a. OnceEach (chunks_in a + 4) old new)
 
 -- ---- what the parts of the call rest on
 

@@ -1,7 +1,7 @@
 //! The keys that would be in the way of an array that is loaded.
 ghost use Rattle.std.specs.Prelude.{◌≡◌, ◌+◌, ◌*◌, IfErr, OnOk};
 ghost use Rattle.cu_store.specs.Held.{IsGone};
-ghost use Rattle.cu_store.specs.Steps.{NoChange, Steps};
+ghost use Rattle.cu_store.specs.Steps.{NoChange, Steps, OnceEach};
 ghost use Rattle.cu_command.specs.Stored.{HasNoMetadata, IsMetadataAsked};
 ghost use Rattle.cu_name.specs.Name.{IsArrayName};
 ghost use Rattle.cu_load.specs.Keys.{IsAskedFor, AreFree, IsAskFault};
@@ -16,6 +16,7 @@ fn refuse_held<D: Depot>(depot: &mut D, key: &Key, retries: u32) -> Result<(), S
     ensures gone { OnOk result (IsGone (D.shown depot.new).held key.now) }
     ensures refused { IfErr result (IsAskFault (retries + 1) (λ asked. asked ≡ key.now) (D.shown depot.old).faults (D.shown depot.new).faults (D.shown depot.new).held) }
     ensures step { Steps NoChange 1 (retries + 1) (D.shown depot.old) (D.shown depot.new) }
+    ensures once { OnceEach 1 (D.shown depot.old) (D.shown depot.new) }
 {
     match ask_key(depot, key, retries) {
         Ok(held) => {
@@ -35,6 +36,7 @@ fn ask_metadata<D: Depot>(depot: &mut D, name: &Key, retries: u32) -> Result<(),
     ensures free { OnOk result (HasNoMetadata (D.shown depot.old).held name.now) }
     ensures refused { IfErr result (IsAskFault (retries + 1) (IsMetadataAsked (D.shown depot.old).held name.now) (D.shown depot.old).faults (D.shown depot.new).faults (D.shown depot.new).held) }
     ensures step { Steps NoChange 1 (2 * (retries + 1)) (D.shown depot.old) (D.shown depot.new) }
+    ensures once { OnceEach 2 (D.shown depot.old) (D.shown depot.new) }
 {
     let metadata = metadata_key(name);
     if let Err(status) = refuse_held(depot, &metadata, retries) {
@@ -51,6 +53,7 @@ pub fn ask_keys<D: Depot>(depot: &mut D, name: &Key, retries: u32) -> Result<(),
     ensures free { OnOk result (AreFree name.now (D.shown depot.old).held) }
     ensures refused { IfErr result (IsAskFault (retries + 1) (IsAskedFor name.now (D.shown depot.old).held) (D.shown depot.old).faults (D.shown depot.new).faults (D.shown depot.new).held) }
     ensures step { Steps NoChange 1 (3 * (retries + 1)) (D.shown depot.old) (D.shown depot.new) }
+    ensures once { OnceEach 3 (D.shown depot.old) (D.shown depot.new) }
 {
     let record = record_key(name);
     if let Err(status) = refuse_held(depot, &record, retries) {

@@ -1,7 +1,8 @@
 //! The command's one call: from the text to the stored array and the report.
 ghost use Rattle.std.specs.Prelude.{◌+◌, ◌*◌};
+ghost use Rattle.cu_store.specs.Steps.{OnceEach};
 ghost use Rattle.cu_command.specs.Seen.{stream, seen, WithinCalls};
-ghost use Rattle.cu_load.specs.Load.{Stored, Loaded, LoadsWithin, chunks_in};
+ghost use Rattle.cu_load.specs.Load.{Stored, Loaded, LoadsWithin, LoadsOnce, chunks_in};
 ghost use Rattle.cu_load.specs.LoadForm.{IsGivenArray, given_by};
 
 use crate::ask::ask_keys;
@@ -31,6 +32,7 @@ pub fn load<R: Source, W: Sink, D: Depot>(
     ensures answer { Loaded retries (stream (R.left src.old) (R.faults src.old)) (stream (R.left src.new) (R.faults src.new))
         (seen (stream (W.written out.old) (W.faults out.old)) (D.shown depot.old)) (seen (stream (W.written out.new) (W.faults out.new)) (D.shown depot.new)) result }
     ensures calls { LoadsWithin retries (R.left src.old) (R.left src.new) (D.shown depot.old) (D.shown depot.new) }
+    ensures once { LoadsOnce (R.left src.old) (R.left src.new) (D.shown depot.old) (D.shown depot.new) }
 {
     let text = match read_all(alloc, src) {
         Ok(text) => text,
@@ -57,6 +59,7 @@ fn store_form<W: Sink, D: Depot>(
     ensures answer { Stored retries (given_by form.now)
         (seen (stream (W.written out.old) (W.faults out.old)) (D.shown depot.old)) (seen (stream (W.written out.new) (W.faults out.new)) (D.shown depot.new)) result }
     ensures calls { WithinCalls ((chunks_in (given_by form.now) + 4) * (retries + 1)) (D.shown depot.old) (D.shown depot.new) }
+    ensures once { OnceEach (chunks_in (given_by form.now) + 4) (D.shown depot.old) (D.shown depot.new) }
 {
     let name = key_of_name(&form.name);
     if let Err(status) = ask_keys(depot, &name, retries) {

@@ -1,7 +1,7 @@
 //! The chunks and the metadata of an array that is loaded, stored.
 ghost use Rattle.std.specs.Prelude.{◌≡◌, ◌+◌, ◌*◌, ◌<◌, length, IfErr, OnOk};
 ghost use Rattle.cu_store.specs.Held.{Holds};
-ghost use Rattle.cu_store.specs.Steps.{Steps};
+ghost use Rattle.cu_store.specs.Steps.{Steps, OnceEach};
 ghost use Rattle.cu_command.specs.Seen.{Stepped, WithinCalls};
 ghost use Rattle.cu_command.specs.Keys.{IsKeyFault, IsValueUnput};
 ghost use Rattle.cu_zarr.specs.Key.{metadata_key_of};
@@ -34,6 +34,7 @@ fn store_chunk<D: Depot>(
     requires chunk_length { length chunk.old ≡ stored_chunk_bytes (given_by form.now).layout }
     ensures stored { OnOk result (HoldsChunk (given_by form.now) (D.shown depot.new).held number) }
     ensures step { Steps (ChunkPut (given_by form.now) number) 1 (retries + 1) (D.shown depot.old) (D.shown depot.new) }
+    ensures once { OnceEach 1 (D.shown depot.old) (D.shown depot.new) }
     ensures cause { IfErr result (IsKeyFault (retries + 1) (D.shown depot.old).faults (D.shown depot.new).faults (D.shown depot.new).lacks (key_of_chunk (given_by form.now) number)) }
     ensures unput { IfErr result (IsValueUnput (D.shown depot.old) (D.shown depot.new)) }
 {
@@ -60,6 +61,7 @@ fn store_chunks<D: Depot>(
     ensures failed { IfErr result (IsStoreFault (retries + 1) (given_by form.now) (D.shown depot.old) (D.shown depot.new)) }
     ensures stored { IsArrayCalm (given_by form.now) (D.shown depot.old).late → OnOk result (HoldsChunks (given_by form.now) (D.shown depot.new).held (chunks_in (given_by form.now))) }
     ensures calls { WithinCalls (chunks_in (given_by form.now) * (retries + 1)) (D.shown depot.old) (D.shown depot.new) }
+    ensures once { OnceEach (chunks_in (given_by form.now)) (D.shown depot.old) (D.shown depot.new) }
 {
     for number in 0..form.layout.grid.count() {
         if let Err(status) = store_chunk(depot, form, number, input, chunk, retries) {
@@ -88,6 +90,7 @@ pub fn store_array<D: Depot>(
     ensures stores { IsArrayCalm (given_by form.now) (D.shown depot.old).late → OnOk result (StoresGiven (given_by form.now) (D.shown depot.new).held) }
     ensures metadata { OnOk result (Holds (D.shown depot.new).held (metadata_key_of (given_by form.now).name) (metadata_text (given_by form.now).layout)) }
     ensures calls { WithinCalls ((chunks_in (given_by form.now) + 1) * (retries + 1)) (D.shown depot.old) (D.shown depot.new) }
+    ensures once { OnceEach (chunks_in (given_by form.now) + 1) (D.shown depot.old) (D.shown depot.new) }
 {
     let _shape = form.layout.grid.shape();
     if let Err(status) = store_chunks(depot, form, input, chunk, retries) {

@@ -6,7 +6,8 @@ use Rattle.cu_shape.specs.Index.{product}
 use Rattle.cu_shape.specs.Counts.{counts_of, at_least_one}
 use Rattle.cu_grid.specs.Grid.{RegularGrid}
 use Rattle.cu_op.specs.declared.layout.Layout.{Layout}
-use Rattle.cu_store.specs.Steps.{Shown}
+use Rattle.cu_store.specs.Steps.{Shown, OnceEach}
+use Rattle.cu_command.specs.Seen.{WithinCalls}
 
 -- the sizes of a band that is as long as a chunk up to this axis, and behind it as long as the array
 abbrev pub band_sizes : ℕ → List ℕ → List ℕ → List ℕ
@@ -39,14 +40,20 @@ IsBandStart zero (n ∷ ns) (c ∷ cs) p = (i : ℕ) × (p ≡ i * c * product n
 IsBandStart (suc a) (n ∷ ns) (c ∷ cs) p = IsBandStart a ns cs (p % product ns)
 IsBandStart a shape chunk p = Unit {0}
 
--- a band was read: so many calls more as it has chunks to meet, and the next one begins behind it
+-- a band was read: each chunk that it meets was called for once, and again only where a call failed, and the next one begins behind it
 pub record IsBandRead (tries axis : ℕ) (g : RegularGrid) (start : ℕ) (old new : Shown) (len : ℕ) : Type 0 where
   pub next : start + len < product g.shape → IsBandStart axis g.shape g.chunk (start + len)
-  pub calls : new.calls + reads_before axis g.shape g.chunk start * tries ≤ old.calls + reads_before axis g.shape g.chunk (start + len) * tries
+  pub met : ℕ
+  pub few : reads_before axis g.shape g.chunk start + met ≤ reads_before axis g.shape g.chunk (start + len)
+  pub calls : WithinCalls (met * tries) old new
+  pub once : OnceEach met old new
 
 -- or its reading ended
-abbrev pub IsBandEnd : ℕ → ℕ → RegularGrid → ℕ → Shown → Shown → Type 0
-IsBandEnd tries axis g start old new = new.calls + reads_before axis g.shape g.chunk start * tries ≤ old.calls + band_reads axis g.shape g.chunk * tries
+pub record IsBandEnd (tries axis : ℕ) (g : RegularGrid) (start : ℕ) (old new : Shown) : Type 0 where
+  pub met : ℕ
+  pub few : reads_before axis g.shape g.chunk start + met ≤ band_reads axis g.shape g.chunk
+  pub calls : WithinCalls (met * tries) old new
+  pub once : OnceEach met old new
 
 -- the bands are as long as a chunk on the first axis on which they may be so
 pub record IsFirstBanding (bands : RegularGrid) (l : Layout) : Type 0 where

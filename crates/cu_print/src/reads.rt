@@ -8,7 +8,7 @@ ghost use Rattle.cu_codec.specs.Parts.{part_at, place_within};
 ghost use Rattle.cu_region.specs.Reading.{bytes_of, HasChunkPart, key_at};
 ghost use Rattle.cu_region.specs.Calls.{chunks_met};
 ghost use Rattle.cu_region.specs.Steady.{IsSteady};
-ghost use Rattle.cu_store.specs.Steps.{Shown, NoChange};
+ghost use Rattle.cu_store.specs.Steps.{Shown, NoChange, OnceEach};
 ghost use Rattle.cu_command.specs.Chunks.{IsStoredArray};
 ghost use Rattle.cu_command.specs.Seen.{Stepped, WithinCalls};
 ghost use Rattle.cu_print.specs.Bands.{HasFirst, IsBandUnread};
@@ -57,6 +57,7 @@ fn read_part<D: Depot>(
     ensures step { Stepped NoChange (D.shown depot.old) (D.shown depot.new) }
     ensures cause { IfErr result (IsReadEnd (retries + 1) (D.shown depot.old) (D.shown depot.new) info.now.layout (key_at info.now coord.now)) }
     ensures calls { WithinCalls (retries + 1) (D.shown depot.old) (D.shown depot.new) }
+    ensures once { OnceEach 1 (D.shown depot.old) (D.shown depot.new) }
 {
     let layout = &info.layout;
     let _shape = layout.grid.shape();
@@ -121,6 +122,7 @@ pub(crate) fn read_band<D: Depot>(
     ensures unread { IfErr result (IsBandUnread (retries + 1) (D.shown depot.old) (D.shown depot.new) info.now region.now) }
     ensures step { Stepped NoChange (D.shown depot.old) (D.shown depot.new) }
     ensures calls { WithinCalls (chunks_met info.now.layout.grid region.now.lo region.now.hi * (retries + 1)) (D.shown depot.old) (D.shown depot.new) }
+    ensures once { OnceEach (chunks_met info.now.layout.grid region.now.lo region.now.hi) (D.shown depot.old) (D.shown depot.new) }
 {
     let grid = &info.layout.grid;
     for coord in grid.cover(region) {

@@ -244,7 +244,7 @@ module _ {lack : Bool} {size : ℕ} {o : Options} {old new : Scene} {status : St
 
 module _ {retries : ℕ} {old new : Scene} {status : Status} (told : LoadTold retries old new status) where
   pub load_answers : LoadAnswered retries old new status
-  load_answers = record { loads = told.tells; calls = told.calls; few_failures = λ few. load_few old new retries few status told.tells }
+  load_answers = record { loads = told.tells; calls = told.calls; once = told.once; few_failures = λ few. load_few old new retries few status told.tells }
 
 module _ {retries : ℕ} {old new : Scene} {status : Status} (told : CheckTold retries old new status) where
   pub check_answers : CheckAnswered retries old new status
@@ -253,9 +253,10 @@ module _ {retries : ℕ} {old new : Scene} {status : Status} (told : CheckTold r
     unequal = λ place stored plain is. subst (CheckEnds (retries + 1) old.source new.source (seen_in old) (seen_in new)) is told.tells.ends;
     checks = told.tells;
     calls = told.calls;
+    once = told.once;
     few_failures = λ few. check_few old new retries few status told.tells;
   }
 
 module _ {name : List ℕ} {retries : ℕ} {old new : Scene} {status : Status} (told : PrintTold name retries old new status) where
   pub print_answers : PrintAnswered name retries old new status
-  print_answers = record { prints_array = told.tells; kept = told.kept; calls = told.calls; few_failures = λ few. print_few old new retries few name status told.tells }
+  print_answers = record { prints_array = told.tells; kept = told.kept; calls = told.calls; once = told.once; few_failures = λ few. print_few old new retries few name status told.tells }

@@ -1,7 +1,8 @@
 -- The calls of the commands that run tasks or remove keys, from the calls of their parts.
 use Rattle.std.proofs.Common.{◌≡◌, inl, inr, ℕ, ◌+◌, ◌*◌, ◌≤◌, [], ◌∷◌, List, Result, Ok, Err, length, length-append, ap, subst, arith}
 use Rattle.std.specs.Prelude.{IfOk}
-use Rattle.cu_store.specs.Steps.{Shown}
+use Rattle.cu_store.specs.Steps.{Shown, OnceEach}
+use Rattle.cu_store.proofs.Once.{once_then, once_few}
 use Rattle.cu_op.specs.PlanView.{PlanView}
 use Rattle.cu_command.specs.Seen.{WithinCalls}
 use Rattle.cu_command.specs.declared.job.Job.{Job}
@@ -48,11 +49,32 @@ begun_then k begun all more most a b c first small large NoMemory calls = omega 
 begun_then k begun all more most a b c first small large status calls = absurd calls
 
 -- the same of the calls by starts
-pub starts_then : (k begun more : ℕ) (p : PlanView) (n : RunCounts) (a b c : Shown) → WithinCalls k a b → k + begun ≤ more → WithinStarts begun p n b c → WithinStarts more p n a c
-starts_then k begun more p n a b c first small calls = λ m most. sum_calls k begun more (n.starts * m) a.calls b.calls c.calls first small (calls m most)
+pub starts_then : (k begun more j keys most : ℕ) (p : PlanView) (n : RunCounts) (a b c : Shown) → WithinCalls k a b → k + begun ≤ more → OnceEach j a b → j + keys ≤ most
+    → WithinStarts begun keys p n b c → WithinStarts more most p n a c
+starts_then k begun more j keys most p n a b c first small once few calls = λ m task. (
+  sum_calls k begun more (n.starts * m) a.calls b.calls c.calls first small (calls m task).0,
+  sum_once j keys most (n.starts * m) a b c few once (calls m task).1,
+)
   where
+    sum_once : (j keys most x : ℕ) (a b c : Shown) → j + keys ≤ most → OnceEach j a b → OnceEach (keys + x) b c → OnceEach (most + x) a c
+    sum_once j keys most x a b c few first rest = once_few (j + (keys + x)) (most + x) a c (omega (arith, few)) (once_then j (keys + x) a b c first rest)
+
     sum_calls : (k begun more x a b c : ℕ) → b ≤ a + k → k + begun ≤ more → c ≤ b + (begun + x) → c ≤ a + (more + x)
     sum_calls k begun more x a b c first small rest = omega (arith, first, small, rest)
+
+-- some calls came behind
+pub starts_before : (begun more k keys most j : ℕ) (p : PlanView) (n : RunCounts) (a b c : Shown) → WithinStarts begun keys p n a b → WithinCalls k b c → begun + k ≤ more → OnceEach j b c
+    → keys + j ≤ most → WithinStarts more most p n a c
+starts_before begun more k keys most j p n a b c calls last small once few = λ m task. (
+  sum_calls begun more k (n.starts * m) a.calls b.calls c.calls (calls m task).0 last small,
+  sum_once keys most j (n.starts * m) a b c few (calls m task).1 once,
+)
+  where
+    sum_calls : (begun more k x a b c : ℕ) → b ≤ a + (begun + x) → c ≤ b + k → begun + k ≤ more → c ≤ a + (more + x)
+    sum_calls begun more k x a b c first last small = omega (arith, first, last, small)
+
+    sum_once : (keys most j x : ℕ) (a b c : Shown) → keys + j ≤ most → OnceEach (keys + x) a b → OnceEach j b c → OnceEach (most + x) a c
+    sum_once keys most j x a b c few first last = once_few ((keys + x) + j) (most + x) a c (omega (arith, few)) (once_then (keys + x) j a b c first last)
 
 -- a command that came to its tasks
 pub begun_within : (most : CallLimits) (old new : Shown) (s : Status) → BegunWithin most.begun most.all old new s → CallsWithin most old new s
@@ -62,6 +84,13 @@ begun_within most old new (OtherPlan place) calls = absurd calls
 begun_within most old new status calls = calls
 
 -- ---- a run
+
+-- the keys that a run asks for, each once
+pub asked_once : (o : Options) (job : Job) (p : PlanView) (old new : Shown) → p ≡ job_plan o job
+    → OnceEach (3 + length (plan_keys p (length p.ops))) old new → OnceEach (length (asked_keys o job)) old new
+asked_once o job p old new same once =
+    once_few (3 + length (plan_keys (job_plan o job) (length (job_plan o job).ops))) (length (asked_keys o job)) old new (omega arith)
+    (subst (λ (q : PlanView). OnceEach (3 + length (plan_keys q (length q.ops))) old new) same once)
 
 -- the keys that a run asks for
 pub asked_all : (o : Options) (job : Job) (p : PlanView) (tries : ℕ) (old new : Shown) → p ≡ job_plan o job
@@ -160,22 +189,28 @@ rest_driven o job p a b c same calls held has s driven = go held has driven
 
 -- the same by starts
 pub rest_starts : (o : Options) (job : Job) (p : PlanView) (n : RunCounts) (a b c : Shown) → p ≡ job_plan o job → WithinCalls ((1 + length (plan_keys p (length p.ops))) * (o.retries + 1)) a b
-    → (held : HeldTexts) → HasRecord held → WithinStarts ((missing_texts held + 1) * (o.retries + 1)) (job_plan o job) n b c
-    → WithinStarts ((length (keys_of o job) + 1) * (o.retries + 1)) (job_plan o job) n a c
-rest_starts o job p n a b c same calls held has driven = go held has driven
+    → OnceEach (1 + length (plan_keys p (length p.ops))) a b
+    → (held : HeldTexts) → HasRecord held → WithinStarts ((missing_texts held + 1) * (o.retries + 1)) (missing_texts held + 1) (job_plan o job) n b c
+    → WithinStarts ((length (keys_of o job) + 1) * (o.retries + 1)) (length (keys_of o job) + 1) (job_plan o job) n a c
+rest_starts o job p n a b c same calls once held has driven = go held has driven
   where
     asked : WithinCalls ((1 + length (plan_keys (job_plan o job) (length (job_plan o job).ops))) * (o.retries + 1)) a b
     asked = subst (λ (q : PlanView). WithinCalls ((1 + length (plan_keys q (length q.ops))) * (o.retries + 1)) a b) same calls
 
-    go : (held : HeldTexts) → HasRecord held → WithinStarts ((missing_texts held + 1) * (o.retries + 1)) (job_plan o job) n b c
-        → WithinStarts ((length (keys_of o job) + 1) * (o.retries + 1)) (job_plan o job) n a c
+    asked_each : OnceEach (1 + length (plan_keys (job_plan o job) (length (job_plan o job).ops))) a b
+    asked_each = subst (λ (q : PlanView). OnceEach (1 + length (plan_keys q (length q.ops))) a b) same once
+
+    go : (held : HeldTexts) → HasRecord held → WithinStarts ((missing_texts held + 1) * (o.retries + 1)) (missing_texts held + 1) (job_plan o job) n b c
+        → WithinStarts ((length (keys_of o job) + 1) * (o.retries + 1)) (length (keys_of o job) + 1) (job_plan o job) n a c
     go Neither has driven = absurd has
     go Record has driven =
         starts_then ((1 + length (plan_keys (job_plan o job) (length (job_plan o job).ops))) * (o.retries + 1)) ((1 + 1) * (o.retries + 1)) ((length (keys_of o job) + 1) * (o.retries + 1))
-        (job_plan o job) n a b c asked (omega arith) driven
+        (1 + length (plan_keys (job_plan o job) (length (job_plan o job).ops))) (1 + 1) (length (keys_of o job) + 1)
+        (job_plan o job) n a b c asked (omega arith) asked_each (omega arith) driven
     go Both has driven =
         starts_then ((1 + length (plan_keys (job_plan o job) (length (job_plan o job).ops))) * (o.retries + 1)) ((0 + 1) * (o.retries + 1)) ((length (keys_of o job) + 1) * (o.retries + 1))
-        (job_plan o job) n a b c asked (omega arith) driven
+        (1 + length (plan_keys (job_plan o job) (length (job_plan o job).ops))) (0 + 1) (length (keys_of o job) + 1)
+        (job_plan o job) n a b c asked (omega arith) asked_each (omega arith) driven
 
 module _ (c : RunCase) (job : Job) (accepted : IsAccepted c job) (planned : HasPlan c.options job) (mid : Shown) (first : WithinCalls (reopening c) c.old.depot mid) where
   pub resume_within : (s : Status) → GoneOnWithin c.options job mid c.new.depot s → ResumeWithin c s

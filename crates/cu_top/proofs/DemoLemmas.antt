@@ -28,7 +28,7 @@ use Rattle.cu_command.specs.declared.status.Status.TheVariants.{Done, OverMemory
 use Rattle.cu_command.proofs.SeenLemmas.{stepped_none, stepped_same, stepped_then}
 use Rattle.cu_load.proofs.AskLemmas.{rose_earlier}
 use Rattle.cu_demo.specs.Expression.{IsDemoJob, demo_text}
-use Rattle.cu_top.specs.Demo.{DemoCase, DemoTells, InputsPut, AreInputsFree, IsDemoAskEnd, IsDemoRefused, IsDemoStarted, IsInputsFault, IsResultUnread, KeepsInputs, ResultTells, demo_case, demo_run, result_key, result_layout, result_line}
+use Rattle.cu_top.specs.Demo.{DemoWithinStarts, DemoCase, DemoTells, InputsPut, AreInputsFree, IsDemoAskEnd, IsDemoRefused, IsDemoStarted, IsInputsFault, IsResultUnread, KeepsInputs, ResultTells, demo_case, demo_run, result_key, result_layout, result_line}
 use Rattle.cu_top.proofs.Completeness.{not_bad}
 use Rattle.cu_top.specs.Complete.{AreWhole}
 use Rattle.cu_top.specs.Prepare.{HasPlan, asked_keys, job_plan, out_layout}
@@ -201,7 +201,7 @@ module _ (options : Options) (n : ℕ) (job : Job) (is : IsDemoJob n job) (found
 
 module _ (lack : Bool) (c : DemoCase) (job : Job) (found ran : Shown) (n : RunCounts) (start : IsDemoStarted c job found) (calm : IsCalm c.options demo_text found)
     (meant : MeantLaw c.options job found) (ended : Ended lack (run_to c.options found ran) job (Ok n)) (step : Stepped NoChange ran c.new.depot) (earlier : c.old.depot.faults ≤ ran.faults)
-    (keeps : (other : Job) → IsStarted (run_to c.options found c.new.depot) other → KeepsInputs c) where
+    (keeps : (other : Job) → IsStarted (run_to c.options found c.new.depot) other → KeepsInputs c) (starts : DemoWithinStarts c job n) where
   s : IsStarted (run_to c.options found c.new.depot) job
   s = started_later c.options job found ran c.new.depot step meant ended.0
 
@@ -219,12 +219,12 @@ module _ (lack : Bool) (c : DemoCase) (job : Job) (found ran : Shown) (n : RunCo
 
   -- the result was read and told
   pub told : (status : Status) → ResultTells (c.options.retries + 1) (λ (x : ℤ). result_line c.size x ++ report_line (plan_in (run_to c.options found c.new.depot) job) n) (seen c.old.out ran) c.new status → DemoTells lack c status
-  told Done (x, result, wrote) = (keeps job s, (job, found, start, (n, s, all, counted, (x, result, wrote))))
-  told WriteFault (rose, (x, result, front, few, wrote)) = (rose, (keeps job s, (job, found, start, (n, s, all, counted, (x, result, front, few, wrote)))))
+  told Done (x, result, wrote) = (keeps job s, (job, found, start, (n, s, all, counted, starts, (x, result, wrote))))
+  told WriteFault (rose, (x, result, front, few, wrote)) = (rose, (keeps job s, (job, found, start, (n, s, all, counted, starts, (x, result, front, few, wrote)))))
   told (BadChunk key got want) (silent, (at, is_want, differ, long)) = (
     no_other_length c.options c.size job start.accepted found c.new.depot s all calm key got want at is_want differ long,
-    inr (silent, (keeps job s, (job, found, start, (n, s, all, counted, (at, is_want, differ, long))))),
+    inr (silent, (keeps job s, (job, found, start, (n, s, all, counted, starts, (at, is_want, differ, long))))),
   )
-  told (DepotFailed key) (silent, fault) = inr (inr (inr (silent, (keeps job s, (job, found, start, (n, s, all, counted, unread (DepotFailed key) fault))))))
-  told NoMemory silent = inr (inr (inr (silent, (keeps job s, (job, found, start, (n, s, all, counted, tt))))))
+  told (DepotFailed key) (silent, fault) = inr (inr (inr (silent, (keeps job s, (job, found, start, (n, s, all, counted, starts, unread (DepotFailed key) fault))))))
+  told NoMemory silent = inr (inr (inr (silent, (keeps job s, (job, found, start, (n, s, all, counted, starts, tt))))))
   told status tells = absurd tells

@@ -64,7 +64,7 @@ module _ (c : DemoCase) (entry : Contents) (told : c.old.depot.held ≡ Some ent
 
   no_bad_chunk : (lack : Bool) (key : List ℕ) (got want : ℕ) → c.new.depot.held ≡ None → IsDemoStopped lack c (BadChunk key got want) ⊎ IsDemoUnread c (BadChunk key got want) → ⊥
   no_bad_chunk lack key got want gone (inl (silent, (job, found, start, ran))) = tells_still job found start ran.0 ran.1 gone
-  no_bad_chunk lack key got want gone (inr (silent, (keeps, (job, found, start, (n, s, all, counted, fault))))) = tells_still job found start job s gone
+  no_bad_chunk lack key got want gone (inr (silent, (keeps, (job, found, start, (n, s, all, counted, starts, fault))))) = tells_still job found start job s gone
 
   pub demo_served : (lack : Bool) (status : Status) → DemoTells lack c status → IsServed status
   demo_served lack Done tells = tt
@@ -78,5 +78,5 @@ module _ (c : DemoCase) (entry : Contents) (told : c.old.depot.held ≡ Some ent
   demo_served lack (DepotFailed key) (inl (quiet, (job, is, end))) = no_rise end.1
   demo_served lack (DepotFailed key) (inr (inl (silent, free, step, fault))) = no_rise fault.0
   demo_served lack (DepotFailed key) (inr (inr (inl (silent, (job, found, start, ran))))) = no_later_rise found start.entry.faults ran.0
-  demo_served lack (DepotFailed key) (inr (inr (inr (silent, (keeps, (job, found, start, (n, s, all, counted, fault))))))) = no_rise fault.1
+  demo_served lack (DepotFailed key) (inr (inr (inr (silent, (keeps, (job, found, start, (n, s, all, counted, starts, fault))))))) = no_rise fault.1
   demo_served lack status tells = absurd tells

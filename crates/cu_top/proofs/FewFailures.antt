@@ -69,7 +69,7 @@ module _ (old new : Scene) where
     demo_few lack size (DepotFailed key) (inr (inl (silent, free, step, (rose, listed)))) = none_so_often options.retries old.depot new.depot few rose
     demo_few lack size (DepotFailed key) (inr (inr (inl (silent, (job, found, started, (rose, rest)))))) =
         not_so_often options.retries found.faults new.depot.faults old.depot new.depot started.entry.faults (omega arith) few rose
-    demo_few lack size (DepotFailed key) (inr (inr (inr (silent, (kept, (job, found, started, (n, was, all, counted, (is, rose)))))))) = none_so_often options.retries old.depot new.depot few rose
+    demo_few lack size (DepotFailed key) (inr (inr (inr (silent, (kept, (job, found, started, (n, was, all, counted, calls, (is, rose)))))))) = none_so_often options.retries old.depot new.depot few rose
     demo_few lack size status tells = tt
 
   module _ (retries : ℕ) (few : FewFailed retries old.depot new.depot) where

@@ -46,7 +46,7 @@ use Rattle.cu_top.proofs.AbsentTasks.{at_least_absent, at_most_absent, stored_by
 use Rattle.cu_top.specs.Absent.{is_stored}
 use Rattle.cu_top.specs.Driven.{Driven, HasEnded, IsUnrun, MissingPut, IsMissingText, AreHeld, run_counts_in, outcome_answer, fault_answer, drive_answer}
 use Rattle.cu_top.specs.Held.{IsFoundAgain, IsLeftBy, IsLeftEntry, IsNotReopened, IsReopened, WasRecorded, WasUnrecorded, WhereEntryTold}
-use Rattle.cu_top.specs.Limits.{WithinStarts, resume_limits}
+use Rattle.cu_top.specs.Limits.{WithinStarts, resume_keys, resume_limits}
 use Rattle.cu_top.specs.Prepare.{HasNoOwnInput, HasPlan, is_own_input, job_plan, keys_of}
 use Rattle.cu_top.specs.Quiet.{run_of_job}
 use Rattle.cu_top.specs.Report.{report_line}
@@ -365,12 +365,12 @@ module _ (c : RunCase) (job : Job) (laws : PlanLaws c job) (start : Shown) (spar
 -- ---- the report
 
 pub resume_done : (lack : Bool) (c : RunCase) (job : Job) (n : RunCounts) → ResumeEnded lack c job (Ok n)
-    → WithinStarts (resume_limits c.options c.text job).begun (plan_in c job) n c.old.depot c.new.depot
+    → WithinStarts (resume_limits c.options c.text job).begun (resume_keys c.options c.text job) (plan_in c job) n c.old.depot c.new.depot
     → WroteTo c (report_line (plan_in c job) n) (length (report_line (plan_in c job) n)) → WasResumed lack c Done
 resume_done lack c job n h calls wrote = (job, h.0, (h.1, (n, h.2, calls, wrote)))
 
 pub resume_unreported : (lack : Bool) (c : RunCase) (job : Job) (n : RunCounts) → ResumeEnded lack c job (Ok n)
-    → WithinStarts (resume_limits c.options c.text job).begun (plan_in c job) n c.old.depot c.new.depot → Rose 1 c.old.sink.faults c.new.sink.faults
+    → WithinStarts (resume_limits c.options c.text job).begun (resume_keys c.options c.text job) (plan_in c job) n c.old.depot c.new.depot → Rose 1 c.old.sink.faults c.new.sink.faults
     → ((k : ℕ) × (k ≤ length (report_line (plan_in c job) n)) × WroteTo c (report_line (plan_in c job) n) k) → WasResumed lack c WriteFault
 resume_unreported lack c job n h calls rose wrote = (rose, (job, h.0, (h.1, (n, h.2, calls, wrote))))
 

@@ -39,7 +39,7 @@ use Rattle.cu_command.specs.declared.status.Status.{Status}
 use Rattle.cu_command.specs.declared.status.Status.TheVariants.{Done, WriteFault}
 use Rattle.cu_top.specs.Ask.{IsFirstOf, IsAskEnd, answer_of}
 use Rattle.cu_top.specs.Driven.{Driven, HasEnded, IsUnrun, run_counts_in, outcome_answer, fault_answer, drive_answer}
-use Rattle.cu_top.specs.Limits.{WithinStarts, run_limits}
+use Rattle.cu_top.specs.Limits.{WithinStarts, run_keys, run_limits}
 use Rattle.cu_top.specs.Prepare.{HasPlan, asked_keys}
 use Rattle.cu_top.specs.Quiet.{IsCalm, IsCalmFor}
 use Rattle.cu_top.specs.Run.{RunCase, job_run, plan_in, env_of, IsAccepted, IsStarted, IsCleared, WhereQuiet, WroteTo, IsCounted, IsStop, TextPut, Ran, Ended, PrintsOnly}
@@ -281,12 +281,12 @@ module _ (c : RunCase) (job : Job) (laws : PlanLaws c job) (start : Shown) (clea
 
 -- a run whose output is complete, and whose line was written
 pub run_done : (lack : Bool) (c : RunCase) (job : Job) (n : RunCounts) → Ended lack c job (Ok n)
-    → WithinStarts (run_limits c.options c.text job).begun (plan_in c job) n c.old.depot c.new.depot
+    → WithinStarts (run_limits c.options c.text job).begun (run_keys c.options c.text job) (plan_in c job) n c.old.depot c.new.depot
     → WroteTo c (report_line (plan_in c job) n) (length (report_line (plan_in c job) n)) → Ran lack c Done
 run_done lack c job n h calls wrote = (job, h.0, (h.1, (n, h.2, calls, wrote)))
 
 pub run_unreported : (lack : Bool) (c : RunCase) (job : Job) (n : RunCounts) → Ended lack c job (Ok n)
-    → WithinStarts (run_limits c.options c.text job).begun (plan_in c job) n c.old.depot c.new.depot → Rose 1 c.old.sink.faults c.new.sink.faults
+    → WithinStarts (run_limits c.options c.text job).begun (run_keys c.options c.text job) (plan_in c job) n c.old.depot c.new.depot → Rose 1 c.old.sink.faults c.new.sink.faults
     → ((k : ℕ) × (k ≤ length (report_line (plan_in c job) n)) × WroteTo c (report_line (plan_in c job) n) k) → Ran lack c WriteFault
 run_unreported lack c job n h calls rose wrote = (rose, (job, h.0, (h.1, (n, h.2, calls, wrote))))
 

@@ -1,6 +1,6 @@
 -- What the call answers: from what the words give to the table of their command's answers.
 use Rattle.std.proofs.Common.{◌≡◌, ℕ, ◌+◌, Bool, List, Result, Ok, Err, refl, sym, subst, inl, inr, arith}
-use Rattle.cu_store.specs.Steps.{NoChange}
+use Rattle.cu_store.specs.Steps.{NoChange, OnceEach}
 use Rattle.cu_command.proofs.SeenLemmas.{stepped_same}
 use Rattle.cu_command.specs.Seen.{Stepped, Stream, WithinCalls}
 use Rattle.cu_command.specs.Streams.{ReadsAll}
@@ -79,11 +79,17 @@ module _ (options : Options) (old new : Scene) (text given : List ℕ) (status :
     calls = inr (came (λ c. PartWithin c q status) (calls old.source new.source old.sink new.sink));
   }
 
-  pub plan_answered : ((source next : Stream) → Plans (from_sink source next) status) → WithinCalls (plan_calls (options.retries + 1) given) old.depot new.depot → PlanTold options old new status
-  plan_answered plans calls = record {
+  pub plan_answered : ((source next : Stream) → Plans (from_sink source next) status) → WithinCalls (plan_calls (options.retries + 1) given) old.depot new.depot
+      → OnceEach (plan_calls 1 given) old.depot new.depot → PlanTold options old new status
+  plan_answered plans calls once = record {
     tells = told_plan options old new text status read (of_text (λ c. Plans c status) (plans old.source new.source));
     prints = prints;
-    calls = inr (text, read, subst (λ (t : List ℕ). WithinCalls (plan_calls (options.retries + 1) t) old.depot new.depot) same calls);
+    calls = inr (
+      text,
+      read,
+      subst (λ (t : List ℕ). WithinCalls (plan_calls (options.retries + 1) t) old.depot new.depot) same calls,
+      subst (λ (t : List ℕ). OnceEach (plan_calls 1 t) old.depot new.depot) same once,
+    );
   }
 
 -- ---- the words are read
@@ -115,9 +121,9 @@ module _ (lack : Bool) (asked : Result Command ℕ) (same : Scene) where
   wanted (Ok (resume options)) = record { tells = inl spared; prints = refl; calls = inl none }
   wanted (Ok (drop options)) = record { tells = inl spared; prints = refl; calls = inl none }
   wanted (Ok (plan options)) = record { tells = spared; prints = refl; calls = inl none }
-  wanted (Ok (load retries)) = record { tells = inl (spared, refl); calls = inl none }
-  wanted (Ok (check retries)) = record { tells = record { spared = spared; printed = refl; ends = tt }; calls = inl none }
-  wanted (Ok (print name retries)) = record { tells = (spared, inl refl); kept = refl; calls = inl (omega arith) }
+  wanted (Ok (load retries)) = record { tells = inl (spared, refl); calls = inl none; once = inl none }
+  wanted (Ok (check retries)) = record { tells = record { spared = spared; printed = refl; ends = tt }; calls = inl none; once = inl none }
+  wanted (Ok (print name retries)) = record { tells = (spared, inl refl); kept = refl; calls = inl (omega arith); once = inl (omega arith) }
   wanted (Ok (demo size options)) = record { tells = inl (spared, refl); kept = refl; calls = inl none }
   wanted (Ok (begin options)) = record { tells = inl spared; prints = refl; calls = inl none }
   wanted (Ok (part options q)) = record { tells = inl spared; prints = refl; calls = inl none }

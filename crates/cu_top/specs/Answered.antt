@@ -2,7 +2,8 @@
 -- says what is so where this answer comes. An answer calls an operation by its number among those
 -- whose results are stored, and so do the words of a part. This project's own rules.
 use Rattle.std.specs.Prelude.{◌≡◌, ◌⊎◌, ℕ, ℤ, ◌+◌, Bool, List, Option, Some, Err}
-use Rattle.cu_check.specs.Check.{Checked, ChecksWithin, IsFoundEqual, IsUnequal, ReadsText}
+use Rattle.cu_check.specs.Check.{Checked, ChecksOnce, ChecksWithin, IsFoundEqual, IsUnequal}
+use Rattle.cu_check.specs.Check.{ReadsText}
 use Rattle.cu_command.specs.Job.{StoodStill}
 use Rattle.cu_command.specs.Seen.{stream}
 use Rattle.cu_command.specs.declared.job.JobFault.TheVariants as fault
@@ -12,9 +13,9 @@ use Rattle.cu_command.specs.declared.status.Status.TheVariants.{OverLimit, BadMe
 use Rattle.cu_command.specs.declared.status.Status.TheVariants.{TaskFailed, ReadFault, WriteFault}
 use Rattle.cu_command.specs.declared.status.Status.TheVariants.{BadChunk, OtherPlan, NoPlan}
 use Rattle.cu_command.specs.declared.status.Status.TheVariants.{DepotFailed, Unequal, NoTasks, NotReady, NoMemory}
-use Rattle.cu_load.specs.Load.{Loaded, LoadsWithin}
+use Rattle.cu_load.specs.Load.{Loaded, LoadsOnce, LoadsWithin}
 use Rattle.cu_lower.specs.declared.options.Options.{Options}
-use Rattle.cu_print.specs.Print.{Printed, PrintsWithin}
+use Rattle.cu_print.specs.Print.{Printed, PrintsOnce, PrintsWithin}
 use Rattle.cu_read.specs.Read.{expression_of}
 use Rattle.cu_read.specs.declared.faults.ReadFault.{ReadFault as ExpressionFault}
 use Rattle.cu_store.specs.Held.{Contents}
@@ -360,6 +361,8 @@ pub record LoadAnswered (retries : ℕ) (old new : Scene) (status : Status) : Ty
   pub loads : Loaded retries old.source new.source (seen_in old) (seen_in new) status
   -- how many calls of the depot it makes at most
   pub calls : LoadsWithin retries old.source.told new.source.told old.depot new.depot
+  -- each key once, and again only where a call failed
+  pub once : LoadsOnce old.source.told new.source.told old.depot new.depot
   -- where few calls fail, no key is given up
   pub few_failures : FewFailed retries old.depot new.depot → IsNotGivenUp status
 
@@ -374,6 +377,8 @@ pub record CheckAnswered (retries : ℕ) (old new : Scene) (status : Status) : T
   pub checks : Checked retries old.source new.source (seen_in old) (seen_in new) status
   -- how many calls of the depot it makes at most
   pub calls : ChecksWithin (retries + 1) old.source new.source old.depot new.depot
+  -- each key once, and again only where a call failed
+  pub once : ChecksOnce old.source new.source old.depot new.depot
   -- where few calls fail, no key is given up
   pub few_failures : FewFailed retries old.depot new.depot → IsNotGivenUp status
 
@@ -385,5 +390,7 @@ pub record PrintAnswered (name : List ℕ) (retries : ℕ) (old new : Scene) (st
   pub kept : new.source.told ≡ old.source.told
   -- how many calls of the depot it makes at most
   pub calls : PrintsWithin (retries + 1) name old.depot new.depot
+  -- each key once, and again only where a call failed
+  pub once : PrintsOnce name old.depot new.depot
   -- where few calls fail, no key is given up
   pub few_failures : FewFailed retries old.depot new.depot → IsNotGivenUp status

@@ -1,5 +1,5 @@
 -- What the command `demo` answers, and what it leaves. This project's own rules.
-use Rattle.std.specs.Prelude.{◌≡◌, ◌≢◌, ◌⊎◌, Bool, ℕ, ◌+◌, ◌≤◌, ℤ, List, [], ◌∷◌, ◌++◌, length, codes, decimal, All, Contains, Option, Some, None}
+use Rattle.std.specs.Prelude.{◌≡◌, ◌≢◌, ◌⊎◌, Bool, ℕ, ◌+◌, ◌*◌, ◌≤◌, ℤ, List, [], ◌∷◌, ◌++◌, length, codes, decimal, All, Contains, Option, Some, None}
 use Rattle.std.specs.Fmt.{signed_decimal}
 use Rattle.cu_num.specs.declared.types.Dtype.TheVariants.{Int64}
 use Rattle.cu_node.specs.Info.{info_of}
@@ -24,13 +24,14 @@ use Rattle.cu_command.specs.declared.job.Job.{Job}
 use Rattle.cu_command.specs.declared.status.Status.{Status}
 use Rattle.cu_command.specs.declared.status.Status.TheVariants.{Done, OverMemory, OverLimit, Exists, TaskFailed, WriteFault, BadChunk, DepotFailed, NoMemory}
 use Rattle.cu_load.specs.Keys.{AreFree, IsAskedFor, IsAskFault}
-use Rattle.cu_load.specs.Load.{ArrayPut, IsArrayCalm, IsArrayKey, StoresGiven}
+use Rattle.cu_load.specs.Load.{ArrayPut, IsArrayCalm, IsArrayKey, StoresGiven, chunks_in}
 use Rattle.cu_load.specs.LoadForm.{GivenArray}
 use Rattle.cu_demo.specs.Expression.{IsDemoJob, demo_text}
 use Rattle.cu_demo.specs.Input.{demo_elements, demo_layout, demo_name}
 use Rattle.cu_demo.specs.declared.input.DemoInput.{DemoInput}
 use Rattle.cu_demo.specs.declared.input.DemoInput.TheVariants.{Rows, Columns}
 use Rattle.cu_top.specs.Ask.{IsFirstOf}
+use Rattle.cu_top.specs.Limits.{WithinStarts}
 use Rattle.cu_top.specs.Prepare.{job_plan, asked_keys, HasPlan, IsUnplanned}
 use Rattle.cu_top.specs.Quiet.{run_of_job}
 use Rattle.cu_top.specs.Report.{report_line}
@@ -171,9 +172,23 @@ DemoRan c fact = (job : Job) × (found : Shown) × IsDemoStarted c job found × 
 abbrev pub KeepsInputs : DemoCase → Type 0
 KeepsInputs c = AreInputsCalm c.size c.old.depot.late → StoresDemoInputs c.size c.new.depot.held
 
+-- How many keys are called for, beside those of the tasks: three of each input that are asked for, and
+-- those that a run asks for; the chunks and the metadata of each input; the two texts, and sharing the
+-- keys; and the chunk of the result.
+abbrev pub demo_keys : Options → ℕ → Job → ℕ
+demo_keys o n job = 6 + length (asked_keys o job)
+    + ((chunks_in (demo_array Rows n) + 1) + (chunks_in (demo_array Columns n) + 1)) + 3 + 1
+
+-- the calls by the starts that are counted
+abbrev pub DemoWithinStarts : DemoCase → Job → RunCounts → Type 0
+DemoWithinStarts c job n =
+    let keys = demo_keys c.options c.size job in
+    WithinStarts (keys * (c.options.retries + 1)) keys (job_plan c.options job) n c.old.depot c.new.depot
+
 -- the output is complete, and the inputs are kept
 abbrev pub IsDemoComplete : DemoCase → (RunCase → Job → RunCounts → Type 0) → Type 0
-IsDemoComplete c fact = KeepsInputs c × DemoRan c (λ r job. (n : RunCounts) × IsStarted r job × HoldsAll r job × IsCounted r job n × fact r job n)
+IsDemoComplete c fact = KeepsInputs c × DemoRan c (λ r job. (n : RunCounts) × IsStarted r job × HoldsAll r job × IsCounted r job n
+    × DemoWithinStarts c job n × fact r job n)
 
 -- ---- the result
 

@@ -1,7 +1,7 @@
 -- What planning the expression of a text answers, and what it leaves: it stores nothing. This project's own rules.
 use Rattle.std.specs.Prelude.{ℕ, ◌≤◌, ◌⊎◌, List, length}
 use Rattle.cu_store.specs.Faults.{Rose}
-use Rattle.cu_store.specs.Steps.{Shown}
+use Rattle.cu_store.specs.Steps.{Shown, OnceEach}
 use Rattle.cu_command.specs.Seen.{Stream, WithinCalls}
 use Rattle.cu_command.specs.Streams.{ReadsAll}
 use Rattle.cu_command.specs.declared.job.JobFault.TheVariants as fault
@@ -44,7 +44,9 @@ PlanTells options old new ReadFault = IsReadFault old new
 PlanTells options old new NoMemory = AreSpared old new
 PlanTells options old new status = CameToRun options old new (λ c. Plans c status)
 
--- the calls of planning the text that was read; where none was, no call was made
+-- the calls of planning the text that was read, for each key once and again only where a call failed;
+-- where none was, no call was made
 abbrev pub PlansWithin : ℕ → Stream → Stream → Shown → Shown → Type 0
 PlansWithin tries src next old new =
-    WithinCalls 0 old new ⊎ ((text : List ℕ) × ReadsAll src.told next.told text × WithinCalls (plan_calls tries text) old new)
+    WithinCalls 0 old new ⊎ ((text : List ℕ) × ReadsAll src.told next.told text
+    × WithinCalls (plan_calls tries text) old new × OnceEach (plan_calls 1 text) old new)

@@ -34,7 +34,7 @@ use Rattle.cu_top.specs.Absent.{absent_tasks}
 use Rattle.cu_top.specs.Call.{AreSpared, CameToRun, IsReadFault}
 use Rattle.cu_top.specs.Driven.{run_counts_in}
 use Rattle.cu_top.specs.Held.{IsNotReopened, IsReopened, IsUnasked, WasUnrecorded, WhereEntryTold}
-use Rattle.cu_top.specs.Limits.{WithinStarts, resume_limits}
+use Rattle.cu_top.specs.Limits.{WithinStarts, resume_keys, resume_limits}
 use Rattle.cu_top.specs.Prepare.{keys_of, out_metadata}
 use Rattle.cu_top.specs.Report.{report_line}
 use Rattle.cu_top.specs.Run.{Scene, RunCase, plan_in, job_run, HasBroken, HoldsAll, IsHistory, IsSpared, OfPlanned, WroteTo}
@@ -130,10 +130,10 @@ IsCountedOn c job n = WentOn c job (λ done history m. AllDone (plan_in c job) m
     × ((entry : Contents) → c.old.depot.held ≡ Some entry → AreOfAbsent c job entry n)
 
 -- the same, with a fact of the line that reports it; the calls of the tasks are those of the starts
--- that it has, at most
+-- that it has, at most; and for any other key there is one call, and one more only where a call failed
 abbrev pub CountedOn : RunCase → Job → (List ℕ → Type 0) → Type 0
 CountedOn c job fact = (n : RunCounts) × IsCountedOn c job n
-    × WithinStarts (resume_limits c.options c.text job).begun (plan_in c job) n c.old.depot c.new.depot
+    × WithinStarts (resume_limits c.options c.text job).begun (resume_keys c.options c.text job) (plan_in c job) n c.old.depot c.new.depot
     × fact (report_line (plan_in c job) n)
 
 -- ---- the answers

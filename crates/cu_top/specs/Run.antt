@@ -41,7 +41,7 @@ use Rattle.cu_command.specs.declared.job.JobFault.TheVariants as fault
 use Rattle.cu_command.specs.declared.status.Status.{Status}
 use Rattle.cu_command.specs.declared.status.Status.TheVariants.{Done, BadExpr, BadType, OverMemory, OverLimit, BadMeta, NoArray, Exists, TaskFailed, WriteFault, BadChunk, DepotFailed, NoMemory}
 use Rattle.cu_top.specs.Ask.{IsFirstOf, IsInWay, IsOwnFirst}
-use Rattle.cu_top.specs.Limits.{WithinStarts, run_limits}
+use Rattle.cu_top.specs.Limits.{WithinStarts, run_keys, run_limits}
 use Rattle.cu_top.specs.Prepare.{job_plan, asked_keys, out_layout, out_metadata, HasPlan, IsUnplanned, HasNoOwnInput, IsLentWithin}
 use Rattle.cu_top.specs.Record.{record_text}
 use Rattle.cu_top.specs.Quiet.{run_of_job}
@@ -188,9 +188,10 @@ IsCounted c job n = WasRun c job (λ history m. AllDone (plan_in c job) m × (n.
     × (task_count (plan_in c job) + n.failures ≤ n.starts) × (c.options.backups ≡ false → n.starts ≡ task_count (plan_in c job) + n.failures)
     × (n.failures ≤ c.options.retries * task_count (plan_in c job)) × (n.starts ≤ (c.options.retries + 2) * task_count (plan_in c job))
 
--- the same, with a fact of the line that reports it; the calls of the tasks are those of the starts that it has, at most
+-- the same, with a fact of the line that reports it; the calls of the tasks are those of the starts that it has, at most;
+-- and for any other key there is one call, and one more only where a call failed
 abbrev pub Counted : RunCase → Job → (List ℕ → Type 0) → Type 0
-Counted c job fact = (n : RunCounts) × IsCounted c job n × WithinStarts (run_limits c.options c.text job).begun (plan_in c job) n c.old.depot c.new.depot
+Counted c job fact = (n : RunCounts) × IsCounted c job n × WithinStarts (run_limits c.options c.text job).begun (run_keys c.options c.text job) (plan_in c job) n c.old.depot c.new.depot
     × fact (report_line (plan_in c job) n)
 
 -- the first n bytes of the line were written

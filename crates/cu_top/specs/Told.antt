@@ -1,12 +1,12 @@
 -- What the call answers, by the command that the words give: the tables on which the lines of
 -- `Answered` rest. This project's own rules.
 use Rattle.std.specs.Prelude.{◌≡◌, ℕ, ◌+◌, Bool, List, Result, Ok, Err}
-use Rattle.cu_check.specs.Check.{Checked, ChecksWithin}
+use Rattle.cu_check.specs.Check.{Checked, ChecksWithin, ChecksOnce}
 use Rattle.cu_command.specs.declared.status.Status.{Status}
 use Rattle.cu_command.specs.declared.status.Status.TheVariants.{BadWords}
-use Rattle.cu_load.specs.Load.{Loaded, LoadsWithin}
+use Rattle.cu_load.specs.Load.{Loaded, LoadsWithin, LoadsOnce}
 use Rattle.cu_lower.specs.declared.options.Options.{Options}
-use Rattle.cu_print.specs.Print.{Printed, PrintsWithin}
+use Rattle.cu_print.specs.Print.{Printed, PrintsWithin, PrintsOnce}
 use Rattle.cu_work.specs.declared.part.Part.{Part}
 use Rattle.cu_top.specs.Begin.{BeginTells, BeginsWithin}
 use Rattle.cu_top.specs.Parts.{PartTells, PartsWithin}
@@ -54,15 +54,18 @@ pub record PartTold (options : Options) (tasks : Part) (old new : Scene) (status
 pub record LoadTold (retries : ℕ) (old new : Scene) (status : Status) : Type 0 where
   pub tells : Loaded retries old.source new.source (seen_in old) (seen_in new) status
   pub calls : LoadsWithin retries old.source.told new.source.told old.depot new.depot
+  pub once : LoadsOnce old.source.told new.source.told old.depot new.depot
 
 pub record CheckTold (retries : ℕ) (old new : Scene) (status : Status) : Type 0 where
   pub tells : Checked retries old.source new.source (seen_in old) (seen_in new) status
   pub calls : ChecksWithin (retries + 1) old.source new.source old.depot new.depot
+  pub once : ChecksOnce old.source new.source old.depot new.depot
 
 pub record PrintTold (name : List ℕ) (retries : ℕ) (old new : Scene) (status : Status) : Type 0 where
   pub tells : Printed retries name (seen_in old) (seen_in new) status
   pub kept : new.source.told ≡ old.source.told
   pub calls : PrintsWithin (retries + 1) name old.depot new.depot
+  pub once : PrintsOnce name old.depot new.depot
 
 pub record DemoTold (lack : Bool) (size : ℕ) (options : Options) (old new : Scene) (status : Status) : Type 0 where
   pub tells : DemoTells lack (demo_case options size (seen_in old) (seen_in new)) status

@@ -1,7 +1,7 @@
 //! The keys of the plan that would be in the way of a run.
 ghost use Rattle.std.specs.Prelude.{◌≡◌, ◌+◌, ◌*◌, [], ◌∷◌, IfErr, OnOk, All, Some, length, true};
 ghost use Rattle.cu_store.specs.Held.{Contents};
-ghost use Rattle.cu_store.specs.Steps.{NoChange, Steps};
+ghost use Rattle.cu_store.specs.Steps.{NoChange, OnceEach, Steps};
 ghost use Rattle.cu_command.specs.Seen.{Stepped, WithinCalls};
 ghost use Rattle.cu_lower.specs.declared.options.Options.{Options};
 ghost use Rattle.cu_name.specs.Keys.{record_key_of};
@@ -96,6 +96,7 @@ fn zarray_of(expr: &Expr) -> Key
 fn ask_own<D: Depot>(depot: &mut D, job: &Job, retries: u32) -> WayFault
     requires own { is_own_input job.now.expr ≡ true }
     ensures step { Steps NoChange 0 ((retries + 1) * 2) (D.shown depot.old) (D.shown depot.new) }
+    ensures once { OnceEach 2 (D.shown depot.old) (D.shown depot.new) }
     ensures refused { (options : Options) → IsAskEnd (retries + 1) job.now.expr (asked_keys options job.now) (D.shown depot.old) (D.shown depot.new) result }
 {
     match ask_texts(depot, &text_keys(&job.expr), retries) {
@@ -120,6 +121,8 @@ pub fn ask_plan<D: Depot>(
         → IfErr result (IsAskEnd (retries + 1) job.now.expr (asked_keys options job.now) (D.shown depot.old) (D.shown depot.new)) }
     ensures calls { (options : Options) → plan.now ≡ job_plan options job.now
         → WithinCalls (length (asked_keys options job.now) * (retries + 1)) (D.shown depot.old) (D.shown depot.new) }
+    ensures once { (options : Options) → plan.now ≡ job_plan options job.now
+        → OnceEach (length (asked_keys options job.now)) (D.shown depot.old) (D.shown depot.new) }
 {
     if is_own_input(&job.expr) {
         return Err(ask_own(depot, job, retries));

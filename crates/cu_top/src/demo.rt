@@ -4,7 +4,7 @@ ghost use Rattle.std.specs.Prelude.{length};
 ghost use Rattle.cu_store.specs.Faults.{Rose};
 ghost use Rattle.cu_command.specs.Streams.{WroteFront};
 ghost use Rattle.cu_store.specs.Held.{Contents};
-ghost use Rattle.cu_store.specs.Steps.{NoChange};
+ghost use Rattle.cu_store.specs.Steps.{NoChange, OnceEach};
 ghost use Rattle.cu_command.specs.Seen.{Stepped, WithinCalls, seen, stream};
 ghost use Rattle.cu_demo.specs.Expression.{IsDemoJob, demo_expression};
 ghost use Rattle.cu_demo.specs.declared.input.DemoInput.TheVariants.{Rows, Columns};
@@ -77,6 +77,8 @@ fn ask_demo<D: Depot>(depot: &mut D, prepared: &Prepared, retries: u32) -> Resul
         → IfErr result (IsDemoAskEnd (retries + 1) (asked_keys options prepared.now.job) (D.shown depot.old) (D.shown depot.new)) }
     ensures calls { (options : Options) → prepared.now.plan ≡ job_plan options prepared.now.job
         → WithinCalls ((6 + length (asked_keys options prepared.now.job)) * (retries + 1)) (D.shown depot.old) (D.shown depot.new) }
+    ensures once { (options : Options) → prepared.now.plan ≡ job_plan options prepared.now.job
+        → OnceEach (6 + length (asked_keys options prepared.now.job)) (D.shown depot.old) (D.shown depot.new) }
 {
     let rows = key_of_name(&demo_name(DemoInput::Rows));
     if let Err(status) = ask_keys(depot, &rows, retries) {
@@ -106,6 +108,7 @@ fn store_input<D: Depot>(
     ensures stores { IsArrayCalm (demo_array input size) (D.shown depot.old).late → OnOk result (StoresGiven (demo_array input size) (D.shown depot.new).held) }
     ensures refused { IfErr result (IsInputPutEnd (retries + 1) (demo_array input size) (D.shown depot.old) (D.shown depot.new)) }
     ensures calls { WithinCalls ((chunks_in (demo_array input size) + 1) * (retries + 1)) (D.shown depot.old) (D.shown depot.new) }
+    ensures once { OnceEach (chunks_in (demo_array input size) + 1) (D.shown depot.old) (D.shown depot.new) }
 {
     let Ok(elements) = demo_elements(alloc, input, size) else {
         return Err(Status::NoMemory);
@@ -142,6 +145,8 @@ fn store_inputs<D: Depot>(
     ensures refused { IfErr result (IsInputsFault (retries + 1) size (D.shown depot.old) (D.shown depot.new)) }
     ensures calls { WithinCalls (((chunks_in (demo_array Rows size) + 1) + (chunks_in (demo_array Columns size) + 1)) * (retries + 1))
         (D.shown depot.old) (D.shown depot.new) }
+    ensures once { OnceEach ((chunks_in (demo_array Rows size) + 1) + (chunks_in (demo_array Columns size) + 1))
+        (D.shown depot.old) (D.shown depot.new) }
 {
     if let Err(status) = store_input(alloc, depot, DemoInput::Rows, size, retries) {
         return Err(status);
@@ -165,6 +170,7 @@ fn read_result<D: Depot>(depot: &mut D, retries: u32) -> Result<i128, Status>
     ensures step { Stepped NoChange (D.shown depot.old) (D.shown depot.new) }
     ensures refused { IfErr result (IsResultUnread (retries + 1) (D.shown depot.old) (D.shown depot.new)) }
     ensures calls { WithinCalls (retries + 1) (D.shown depot.old) (D.shown depot.new) }
+    ensures once { OnceEach 1 (D.shown depot.old) (D.shown depot.new) }
 {
     let key = result_key();
     let mut bytes = [0u8; 8];
@@ -222,6 +228,7 @@ fn tell_result<W: Sink, D: Depot>(
         (seen (stream (W.written out.old) (W.faults out.old)) (D.shown depot.old)) (seen (stream (W.written out.new) (W.faults out.new)) (D.shown depot.new)) result }
     ensures step { Stepped NoChange (D.shown depot.old) (D.shown depot.new) }
     ensures calls { WithinCalls (retries + 1) (D.shown depot.old) (D.shown depot.new) }
+    ensures once { OnceEach 1 (D.shown depot.old) (D.shown depot.new) }
 {
     let element = match read_result(depot, retries) {
         Ok(element) => element,

@@ -1,7 +1,7 @@
 //! The plan of a text whose record is held: what the commands that go on from it begin with.
 ghost use Rattle.std.specs.Prelude.{◌≡◌, ◌+◌, None, IfErr, IfOk, IfSome, OnOk, length};
 ghost use Rattle.cu_store.specs.Held.{Holds};
-ghost use Rattle.cu_store.specs.Steps.{NoChange, Steps};
+ghost use Rattle.cu_store.specs.Steps.{NoChange, OnceEach, Steps};
 ghost use Rattle.cu_command.specs.Seen.{Stream, WithinCalls};
 ghost use Rattle.cu_top.specs.Calls.{ReopenWithin};
 ghost use Rattle.cu_top.specs.Driven.{HasPlanAndTexts};
@@ -74,6 +74,7 @@ fn ask_front<D: Depot>(
     requires room { length front.old ≡ length text.now + 1 }
     ensures equal { OnOk result (Holds (D.shown depot.new).held key.now text.now) }
     ensures step { Steps NoChange 0 (retries + 1) (D.shown depot.old) (D.shown depot.new) }
+    ensures once { OnceEach 1 (D.shown depot.old) (D.shown depot.new) }
     ensures fault { IfErr result (IsRecordFault (retries + 1) key.now text.now
         (D.shown depot.old, D.shown depot.new)) }
 {
@@ -98,6 +99,7 @@ fn ask_record<D: Depot>(
 ) -> Result<(), RecordFault>
     ensures equal { OnOk result (Holds (D.shown depot.new).held key.now text.now) }
     ensures step { Steps NoChange 0 (retries + 1) (D.shown depot.old) (D.shown depot.new) }
+    ensures once { OnceEach 1 (D.shown depot.old) (D.shown depot.new) }
     ensures fault { IfErr result (IsRecordFault (retries + 1) key.now text.now
         (D.shown depot.old, D.shown depot.new)) }
 {
@@ -138,6 +140,7 @@ pub fn reopen<D: Depot>(
         (scene source sink (D.shown depot.old)) (scene next after (D.shown depot.new)))) }
     ensures calls { WithinCalls (plan_calls (options.now.retries + 1) text.now + (options.now.retries + 1))
         (D.shown depot.old) (D.shown depot.new) }
+    ensures once { OnceEach (plan_calls 1 text.now + 1) (D.shown depot.old) (D.shown depot.new) }
     ensures refused_calls { (source next sink after : Stream)
         → IfErr result (ReopenWithin (case options.now text.now
         (scene source sink (D.shown depot.old)) (scene next after (D.shown depot.new)))) }

@@ -1,5 +1,6 @@
 //! The command that says what a plan does.
 ghost use Rattle.std.specs.Prelude.{◌+◌};
+ghost use Rattle.cu_store.specs.Steps.{OnceEach};
 ghost use Rattle.cu_command.specs.Seen.{Stream, WithinCalls, stream};
 ghost use Rattle.cu_top.specs.Planned.{Plans, plan_calls};
 ghost use Rattle.cu_top.specs.Run.{scene, case, PrintsOnly};
@@ -25,6 +26,7 @@ pub fn print_plan<W: Sink, D: Depot>(
         (scene next (stream (W.written out.new) (W.faults out.new)) (D.shown depot.new))) result }
     ensures prints { PrintsOnly result (W.written out.old) (W.written out.new) }
     ensures calls { WithinCalls (plan_calls (options.now.retries + 1) text.now) (D.shown depot.old) (D.shown depot.new) }
+    ensures once { OnceEach (plan_calls 1 text.now) (D.shown depot.old) (D.shown depot.new) }
 {
     let prepared = match plan_job(alloc, options, text, depot) {
         Ok(prepared) => prepared,

@@ -1,13 +1,13 @@
 //! What is checked before anything is stored: the text, the inputs' metadata, the types, the plan, and the keys in the way.
-ghost use Rattle.std.specs.Prelude.{◌≡◌, ◌+◌, Bool, IfErr, IfOk};
+ghost use Rattle.std.specs.Prelude.{◌≡◌, ◌+◌, Bool, IfErr, IfOk, length};
 ghost use Rattle.cu_op.specs.Sound.{Sound};
-ghost use Rattle.cu_store.specs.Steps.{NoChange};
+ghost use Rattle.cu_store.specs.Steps.{NoChange, OnceEach};
 ghost use Rattle.cu_command.specs.Job.{IsJob};
 ghost use Rattle.cu_command.specs.Seen.{Stepped, Stream, WithinCalls};
 ghost use Rattle.cu_top.specs.Begin.{BeginWithin, WasBegun};
 ghost use Rattle.cu_top.specs.Calls.{RunWithin, run_limits};
 ghost use Rattle.cu_top.specs.Planned.{IsPlanRefused, plan_calls};
-ghost use Rattle.cu_top.specs.Prepare.{job_plan, unplanned_status, HasPlan};
+ghost use Rattle.cu_top.specs.Prepare.{asked_keys, job_plan, unplanned_status, HasPlan};
 ghost use Rattle.cu_top.specs.Run.{scene, case, Ran, IsCleared};
 ghost use Rattle.cu_top.specs.Words.{IsInRange};
 
@@ -77,6 +77,7 @@ pub fn plan_job<D: Depot>(
     ensures refused { (source next sink after : Stream)
         → IfErr result (IsPlanRefused (case options.now text.now (scene source sink (D.shown depot.old)) (scene next after (D.shown depot.new)))) }
     ensures calls { WithinCalls (plan_calls (options.now.retries + 1) text.now) (D.shown depot.old) (D.shown depot.new) }
+    ensures once { OnceEach (plan_calls 1 text.now) (D.shown depot.old) (D.shown depot.new) }
 {
     let job = match read_job(alloc, depot, text, options.retries) {
         Ok(job) => job,
@@ -103,6 +104,7 @@ pub fn prepare<D: Depot>(
     ensures refused { (source next sink after : Stream) (lack : Bool)
         → IfErr result (Ran lack (case options.now text.now (scene source sink (D.shown depot.old)) (scene next after (D.shown depot.new)))) }
     ensures calls { IfOk result (λ p. WithinCalls (run_limits options.now text.now p.job).asked (D.shown depot.old) (D.shown depot.new)) }
+    ensures once { IfOk result (λ p. OnceEach (plan_calls 1 text.now + length (asked_keys options.now p.job)) (D.shown depot.old) (D.shown depot.new)) }
     ensures refused_calls { (source next sink after : Stream)
         → IfErr result (RunWithin (case options.now text.now (scene source sink (D.shown depot.old)) (scene next after (D.shown depot.new)))) }
     // a run that is only begun is refused so too

@@ -8,7 +8,7 @@ ghost use Rattle.cu_work.specs.Shared.{IsMemoryFor};
 ghost use Rattle.cu_work.specs.World.{IsFound};
 ghost use Rattle.cu_command.specs.Seen.{Stepped, Stream, WithinCalls, stream};
 ghost use Rattle.cu_command.specs.declared.status.Status.TheVariants.{Done};
-ghost use Rattle.cu_store.specs.Steps.{NoChange, Shown};
+ghost use Rattle.cu_store.specs.Steps.{NoChange, OnceEach, Shown};
 ghost use Rattle.cu_top.specs.Calls.{GoneOnWithin, ResumeWithin};
 ghost use Rattle.cu_top.specs.Driven.{AreHeld, HasPlanAndTexts, run_options};
 ghost use Rattle.cu_top.specs.Held.{IsFoundAgain, IsLeftEntry};
@@ -78,6 +78,8 @@ fn find_rest<D: Depot>(
     // The metadata and each chunk are asked for.
     ensures calls { WithinCalls ((1 + length (plan_keys ready.now.plan (length ready.now.plan.ops)))
         * (options.now.retries + 1)) (D.shown depot.old) (D.shown depot.new) }
+    ensures once { OnceEach (1 + length (plan_keys ready.now.plan (length ready.now.plan.ops)))
+        (D.shown depot.old) (D.shown depot.new) }
 {
     let key = text_keys(&ready.job.expr).metadata;
     let held = match ask_key(depot, &key, options.retries) {
@@ -116,7 +118,7 @@ fn go_on<H: Threads + Wait + Sync, D: Share, G: Gate>(
     ensures calls { IfOk result (λ counts. GoneOnWithin options.now ready.now.job
         (D.shown depot.old) (D.shown depot.new) Done) }
     ensures starts { IfOk result (λ counts. WithinStarts ((length (keys_of options.now ready.now.job) + 1) * (options.now.retries + 1))
-        (job_plan options.now ready.now.job) counts (D.shown depot.old) (D.shown depot.new)) }
+        (length (keys_of options.now ready.now.job) + 1) (job_plan options.now ready.now.job) counts (D.shown depot.old) (D.shown depot.new)) }
     ensures stopped_calls { IfErr result (GoneOnWithin options.now ready.now.job
         (D.shown depot.old) (D.shown depot.new)) }
 {

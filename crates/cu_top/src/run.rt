@@ -49,7 +49,7 @@ pub fn store_plan<H: Threads + Wait + Sync, D: Share, G: Gate>(
     ensures calls { IfOk result (λ counts. DriveWithin options.now ready.now.job Neither
         (D.shown depot.old) (D.shown depot.new) Done) }
     ensures starts { IfOk result (λ counts. WithinStarts (3 * (options.now.retries + 1))
-        (job_plan options.now ready.now.job) counts (D.shown depot.old) (D.shown depot.new)) }
+        3 (job_plan options.now ready.now.job) counts (D.shown depot.old) (D.shown depot.new)) }
     ensures stopped_calls { IfErr result (DriveWithin options.now ready.now.job Neither
         (D.shown depot.old) (D.shown depot.new)) }
 {

@@ -10,7 +10,7 @@ use Rattle.std.proofs.lemmas.List.{length-append, length-map}
 use Rattle.std.proofs.lemmas.List.Elements.{All-nil, All-head, All-tail}
 use Rattle.cu_store.specs.Faults.{Rose, last_count}
 use Rattle.cu_store.specs.Held.{Contents, Answers, IsHeldIn}
-use Rattle.cu_store.specs.Steps.{Shown, NoChange, Steps}
+use Rattle.cu_store.specs.Steps.{Shown, NoChange, OnceEach, Steps}
 use Rattle.cu_store.proofs.Steps.{steps_same, steps_then, steps_wider}
 use Rattle.cu_op.specs.declared.cells.Cell.{Cell}
 use Rattle.cu_op.specs.Arrays.{maker_at}
@@ -69,12 +69,12 @@ module _ (p : PlanView) (q : Part) (tries task : ℕ) (within : IsInPart q task)
     sought : IsSoughtInput (asking_of p q tries start) key
     sought = (task, within, lacks, made)
 
-    pub found_asked : (held : Bool) → Answers new.held key (Ok held) → AskedOn {E = FindFault} (asking_of p q tries start) own later new (Ok held) × (IsTrue held → IsHeldIn new.held key)
-    found_asked true answer =
-        let asked = asked_key tries old new key true step answer in
+    pub found_asked : OnceEach 1 old new → (held : Bool) → Answers new.held key (Ok held) → AskedOn {E = FindFault} (asking_of p q tries start) own later new (Ok held) × (IsTrue held → IsHeldIn new.held key)
+    found_asked once true answer =
+        let asked = asked_key tries old new key true step once answer in
         let held = All-head (IsHeldIn new.held) key [] (asked.held refl) in
         (input_found (asking_of p q tries start) own known old a key unknown sought new step later more held, λ so. held)
-    found_asked false answer = (input_asked (asking_of p q tries start) own known old a key unknown sought new step, λ so. absurd (let e : false ≡ true = so in cc))
+    found_asked once false answer = (input_asked (asking_of p q tries start) own known old a key unknown sought new step, λ so. absurd (let e : false ≡ true = so in cc))
 
     pub failed_asked : HasAsked (asking_of p q tries start) own new
     failed_asked = input_asked (asking_of p q tries start) own known old a key unknown sought new step

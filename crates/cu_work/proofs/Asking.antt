@@ -7,7 +7,8 @@ use Rattle.std.proofs.lemmas.List.{length-append, append_assoc, append-nil, take
 use Rattle.std.proofs.lemmas.List.Elements.{All-append, All-nil, All-weaker, All-head, All-tail, Contains-append_left, Contains-append_right}
 use Rattle.cu_store.specs.Faults.{Rose}
 use Rattle.cu_store.specs.Held.{Contents, Answers, IsHeldIn}
-use Rattle.cu_store.specs.Steps.{Shown, NoChange, OrLate, IsChangedBy, Lands, Steps}
+use Rattle.cu_store.specs.Steps.{Shown, NoChange, OrLate, IsChangedBy, Lands, Steps, OnceEach}
+use Rattle.cu_store.proofs.Once.{once_few}
 use Rattle.cu_store.proofs.Steps.{steps_same, steps_then, steps_wider}
 use Rattle.cu_op.specs.declared.cells.Cell.{Cell}
 use Rattle.cu_op.specs.Cells.{tasks_of, IsChunk}
@@ -17,6 +18,7 @@ use Rattle.cu_op.specs.Schedule.{op_of, key_of}
 use Rattle.cu_work.specs.declared.way.WayFault.{WayFault}
 use Rattle.cu_work.specs.declared.way.WayFault.TheVariants.{Held, Failed, NoMemory}
 use Rattle.cu_work.specs.Order.{IsFree, IsFirst, IfAsked, task_keys, operation_keys, plan_keys, IsAsked}
+use Rattle.cu_work.proofs.EndedCalls.{once_none, once_both, once_front}
 
 -- what is free later was free before
 free_before : (old new : Shown) (l m : ℕ) → Steps NoChange l m old new → (held : Contents) → old.held ≡ Some held → (now : Contents) × (new.held ≡ Some now) × ((key : List ℕ) → IsFree now key → IsFree held key)
@@ -35,6 +37,7 @@ free_before old new l m step held told = from new.held refl (subst (λ (h : Opti
 pub asked_none : (tries : ℕ) (shown : Shown) → IsAsked tries shown shown [] (Ok tt)
 asked_none tries shown = record {
   step = steps_wider (λ key value change. change) (omega arith) (omega arith) (steps_same NoChange shown);
+  once = once_few 0 (length {A = List ℕ} []) shown shown (omega arith) (once_none shown);
   free = λ held told. All-nil (IsFree held);
   first = λ held told. tt;
   listed = tt;
@@ -56,6 +59,7 @@ pub asked_then : (tries : ℕ) (old between new : Shown) (ks ls : List (List ℕ
     → IsAsked tries old new (ks ++ ls) result
 asked_then tries old between new ks ls (Ok x) before then = record {
   step = let e = all_calls tries ks ls in steps_wider (λ key value change. change) (omega arith) (omega (arith, e)) (steps_then before.step then.step);
+  once = once_both ks ls old between new before.once then.once;
   free = λ held told.
       let (now, told_now, back) = free_before old between 0 (tries * length ks) before.step held told in
       All-append (IsFree held) ks ls (before.free held told) (All-weaker (IsFree now) (IsFree held) back ls (then.free now told_now));
@@ -65,6 +69,7 @@ asked_then tries old between new ks ls (Ok x) before then = record {
 }
 asked_then tries old between new ks ls (Err (Held key)) before then = record {
   step = let e = all_calls tries ks ls in steps_wider (λ key value change. change) (omega arith) (omega (arith, e)) (steps_then before.step then.step);
+  once = once_both ks ls old between new before.once then.once;
   free = λ held told. tt;
   first = λ held told.
       let (now, told_now, back) = free_before old between 0 (tries * length ks) before.step held told in
@@ -74,6 +79,7 @@ asked_then tries old between new ks ls (Err (Held key)) before then = record {
 }
 asked_then tries old between new ks ls (Err (Failed key)) before then = record {
   step = let e = all_calls tries ks ls in steps_wider (λ key value change. change) (omega arith) (omega (arith, e)) (steps_then before.step then.step);
+  once = once_both ks ls old between new before.once then.once;
   free = λ held told. tt;
   first = λ held told.
       let (now, told_now, back) = free_before old between 0 (tries * length ks) before.step held told in
@@ -83,6 +89,7 @@ asked_then tries old between new ks ls (Err (Failed key)) before then = record {
 }
 asked_then tries old between new ks ls (Err NoMemory) before then = record {
   step = let e = all_calls tries ks ls in steps_wider (λ key value change. change) (omega arith) (omega (arith, e)) (steps_then before.step then.step);
+  once = once_both ks ls old between new before.once then.once;
   free = λ held told. tt;
   first = λ held told. tt;
   listed = tt;
@@ -93,6 +100,7 @@ asked_then tries old between new ks ls (Err NoMemory) before then = record {
 pub asked_ended : (tries : ℕ) (old new : Shown) (ks ls : List (List ℕ)) (f : WayFault) → IsAsked tries old new ks (Err f) → IsAsked tries old new (ks ++ ls) (Err f)
 asked_ended tries old new ks ls f asked = record {
   step = let e = all_calls tries ks ls in steps_wider (λ key value change. change) (omega arith) (omega (arith, e)) asked.step;
+  once = once_front ks ls old new asked.once;
   free = λ held told. tt;
   first = λ held told. first f held (asked.first held told);
   listed = listed f asked.listed;
@@ -119,18 +127,20 @@ held_in : (h : Option Contents) (key : List ℕ) → Answers h key (Ok true) →
 held_in None key answer = tt
 held_in (Some held) key answer = some_bytes (held key) (answer.0 refl)
 
-pub asked_held : (tries : ℕ) (old new : Shown) (key : List ℕ) → Steps NoChange 1 tries old new → Answers new.held key (Ok true) → IsAsked tries old new (key ∷ []) (Err (Held key))
-asked_held tries old new key step answer = record {
+pub asked_held : (tries : ℕ) (old new : Shown) (key : List ℕ) → Steps NoChange 1 tries old new → OnceEach 1 old new → Answers new.held key (Ok true) → IsAsked tries old new (key ∷ []) (Err (Held key))
+asked_held tries old new key step once answer = record {
   step = steps_wider (λ k value change. change) (omega arith) (omega arith) step;
+  once = once_few 1 (length (key ∷ [])) old new (omega arith) once;
   free = λ held told. tt;
   first = λ held told. ([], [], refl, All-nil (IsFree held));
   listed = (0, omega arith, refl);
   cause = held_in new.held key answer;
 }
 
-pub asked_failed : (tries : ℕ) (old new : Shown) (key : List ℕ) → Steps NoChange 1 tries old new → Rose tries old.faults new.faults → IsAsked tries old new (key ∷ []) (Err (Failed key))
-asked_failed tries old new key step rose = record {
+pub asked_failed : (tries : ℕ) (old new : Shown) (key : List ℕ) → Steps NoChange 1 tries old new → OnceEach 1 old new → Rose tries old.faults new.faults → IsAsked tries old new (key ∷ []) (Err (Failed key))
+asked_failed tries old new key step once rose = record {
   step = steps_wider (λ k value change. change) (omega arith) (omega arith) step;
+  once = once_few 1 (length (key ∷ [])) old new (omega arith) once;
   free = λ held told. tt;
   first = λ held told. ([], [], refl, All-nil (IsFree held));
   listed = (0, omega arith, refl);

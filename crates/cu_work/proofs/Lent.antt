@@ -27,11 +27,11 @@ most_at f p k h =
     let long = length-range_with_len 0 (length p.ops) in
     subst (λ (n : ℕ). f n ≤ most_of f p) (itself (length p.ops) k h) (one_of f (range_with_len 0 (length p.ops)) k 0 (omega (arith, long, h)))
 
-pub bytes_lent : (p : PlanView) (k n : ℕ) (xs : List ℕ) → k < length p.ops → n ≡ task_bytes p k → length xs ≡ (rooms_of p).bytes → n ≤ length xs
-bytes_lent p k n xs h e long = let most = most_at (task_bytes p) p k h in omega (arith, most, e, long)
+pub bytes_lent : (p : PlanView) (k n taken : ℕ) → k < length p.ops → n ≡ task_bytes p k → taken ≡ (rooms_of p).bytes → n ≤ taken
+bytes_lent p k n taken h e long = let most = most_at (task_bytes p) p k h in omega (arith, most, e, long)
 
-pub words_lent : (p : PlanView) (k n : ℕ) (xs : List ℕ) → k < length p.ops → n ≡ task_words p k → length xs ≡ (rooms_of p).words → n ≤ length xs
-words_lent p k n xs h e long = let most = most_at (task_words p) p k h in omega (arith, most, e, long)
+pub words_lent : (p : PlanView) (k n taken : ℕ) → k < length p.ops → n ≡ task_words p k → taken ≡ (rooms_of p).words → n ≤ taken
+words_lent p k n taken h e long = let most = most_at (task_words p) p k h in omega (arith, most, e, long)
 
 -- the most of the operations below k + 1
 pub most_more : (f : ℕ → ℕ) (k : ℕ) → largest (map f (range_with_len 0 (k + 1))) ≡ max (f k) (largest (map f (range_with_len 0 k)))

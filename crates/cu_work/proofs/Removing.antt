@@ -4,9 +4,10 @@ use Rattle.std.specs.Prelude.{Result, Ok, Err, OnErr}
 use Rattle.std.proofs.lemmas.List.{length-append, append_assoc, append-nil}
 use Rattle.std.proofs.lemmas.List.Elements.{All-append, All-nil, All-cons, All-weaker, All-head, All-tail, Contains-append_left, Contains-append_right}
 use Rattle.cu_store.specs.Held.{Contents, Write, IsAmong, IsGone}
-use Rattle.cu_store.specs.Steps.{Shown, NoChange, RemovalOf, OrLate, IsChangedBy, Lands, LandsLate, AllLateIn, Steps, Caused}
+use Rattle.cu_store.specs.Steps.{Shown, NoChange, RemovalOf, OrLate, IsChangedBy, Lands, LandsLate, AllLateIn, Steps, OnceEach, Caused}
 use Rattle.cu_store.specs.declared.faults.DepotFault.{DepotFault}
 use Rattle.cu_store.specs.declared.faults.DepotFault.TheVariants as depot
+use Rattle.cu_store.proofs.Once.{once_few}
 use Rattle.cu_store.proofs.Steps.{steps_same, steps_then, steps_wider, steps_none}
 use Rattle.cu_op.specs.declared.cells.Cell.{Cell}
 use Rattle.cu_op.specs.Cells.{tasks_of, IsChunk}
@@ -18,7 +19,7 @@ use Rattle.cu_work.specs.declared.removal.RemoveFault.TheVariants.{Failed, NoMem
 use Rattle.cu_work.specs.Order.{task_keys, operation_keys, plan_keys}
 use Rattle.cu_work.specs.Removal.{RemovalIn, IsGoneBut, StopsAt, IsRemoveFault, AreRemoved, keys_before_record, removed_keys}
 use Rattle.cu_work.proofs.Asking.{operation_rest, plan_rest}
-use Rattle.cu_work.proofs.EndedCalls.{Grows, all_calls, ends_one, ends_before, ends_behind}
+use Rattle.cu_work.proofs.EndedCalls.{Grows, all_calls, once_none, once_both, once_front, ends_one, ends_before, ends_behind}
 
 pub removal_grows : Grows RemovalIn
 removal_grows ks ls = ((λ key value change. (Contains-append_left ks ls key change.0, change.1)), (λ key value change. (Contains-append_right ks ls key change.0, change.1)))
@@ -57,6 +58,7 @@ module _ (keys : List (List ℕ)) (first late : List Write) (all : (key bytes : 
 pub removed_nothing : (tries : ℕ) (shown : Shown) → AreRemoved tries [] shown shown (Ok tt)
 removed_nothing tries shown = record {
   step = steps_wider (λ key value change. change) (omega arith) (omega arith) (steps_same (RemovalIn []) shown);
+  once = once_few 0 (length {A = List ℕ} []) shown shown (omega arith) (once_none shown);
   called = omega arith;
   gone = All-nil (IsGoneBut shown.late shown.held);
   cause = tt;
@@ -92,7 +94,7 @@ module _ (tries : ℕ) (ks ls : List (List ℕ)) (old between new : Shown) (firs
   stops_behind : (key : List ℕ) (fault : DepotFault) → Steps (RemovalIn ls) 0 (tries * length ls) between new → StopsAt tries ls (between, new) key fault → StopsAt tries (ks ++ ls) (old, new) key fault
   unfolding ends_behind
   stops_behind key fault second e = record {
-    ends = ends_behind RemovalIn tries key fault removal_grows ks ls old between new (counted tries ks old between first) e.ends;
+    ends = ends_behind RemovalIn tries key fault removal_grows ks ls old between new (counted tries ks old between first) first.once e.ends;
     gone = gone_both e.ends.front second e.gone;
   }
 
@@ -103,12 +105,14 @@ module _ (tries : ℕ) (ks ls : List (List ℕ)) (old between new : Shown) (firs
   pub removed_then : (r : Result (Unit {0}) RemoveFault) → AreRemoved tries ls between new r → AreRemoved tries (ks ++ ls) old new r
   removed_then (Ok x) second = record {
     step = both_steps second.step;
+    once = once_both ks ls old between new first.once second.once;
     called = let n = length-append ks ls in let a = first.called in let b = second.called in omega (arith, n, a, b);
     gone = gone_both ls second.step second.gone;
     cause = tt;
   }
   removed_then (Err f) second = record {
     step = both_steps second.step;
+    once = once_both ks ls old between new first.once second.once;
     called = tt;
     gone = tt;
     cause = fault_behind f second.step second.cause;
@@ -127,6 +131,7 @@ module _ (tries : ℕ) (ks ls : List (List ℕ)) (old new : Shown) where
   pub removed_ended : (f : RemoveFault) → AreRemoved tries ks old new (Err f) → AreRemoved tries (ks ++ ls) old new (Err f)
   removed_ended f removed = record {
     step = let m = all_calls tries ks ls in steps_wider (removal_grows ks ls).0 (omega arith) (omega (arith, m)) removed.step;
+    once = once_front ks ls old new removed.once;
     called = tt;
     gone = tt;
     cause = fault_before f removed.cause;
@@ -134,9 +139,12 @@ module _ (tries : ℕ) (ks ls : List (List ℕ)) (old new : Shown) where
 
 -- ---- one key
 
-module _ (tries : ℕ) (old new : Shown) (key : List ℕ) (step : Steps (RemovalOf key) 1 tries old new) where
+module _ (tries : ℕ) (old new : Shown) (key : List ℕ) (step : Steps (RemovalOf key) 1 tries old new) (once : OnceEach 1 old new) where
   own_step : Steps (RemovalIn (key ∷ [])) 1 (tries * length (key ∷ [])) old new
   own_step = steps_wider (λ k value change. ((0, omega arith, sym change.0), change.1)) (omega arith) (omega arith) step
+
+  own_once : OnceEach (length (key ∷ [])) old new
+  own_once = once_few 1 (length (key ∷ [])) old new (omega arith) once
 
   gone_now : (h : Option Contents) → IsGone h key → IsGoneBut old.late h key
   gone_now None gone = tt
@@ -145,6 +153,7 @@ module _ (tries : ℕ) (old new : Shown) (key : List ℕ) (step : Steps (Removal
   pub removed_key : IsGone new.held key → AreRemoved tries (key ∷ []) old new (Ok tt)
   removed_key gone = record {
     step = steps_wider (λ k value change. change) (omega arith) (omega arith) own_step;
+    once = own_once;
     called = own_step.calls.0;
     gone = All-cons (IsGoneBut old.late new.held) key [] (gone_now new.held gone) (All-nil (IsGoneBut old.late new.held));
     cause = tt;
@@ -171,6 +180,7 @@ module _ (tries : ℕ) (old new : Shown) (key : List ℕ) (step : Steps (Removal
     pub unremoved_key : (f : RemoveFault) → IsRemoveFault tries (key ∷ []) (old, new) f → AreRemoved tries (key ∷ []) old new (Err f)
     unremoved_key f cause = record {
       step = steps_wider (λ k value change. change) (omega arith) (omega arith) own_step;
+      once = own_once;
       called = tt;
       gone = tt;
       cause = cause;
@@ -178,7 +188,7 @@ module _ (tries : ℕ) (old new : Shown) (key : List ℕ) (step : Steps (Removal
 
     stops_one : (fault : DepotFault) → Caused {T = Unit {0}} tries old new (Err fault) → StopsAt tries (key ∷ []) (old, new) key fault
     unfolding ends_one
-    stops_one fault cause = record { ends = ends_one RemovalIn tries key fault old new kept_key cause; gone = All-nil (IsGoneBut old.late new.held) }
+    stops_one fault cause = record { ends = ends_one RemovalIn tries key fault old new kept_key once cause; gone = All-nil (IsGoneBut old.late new.held) }
 
     pub failed_key : Caused {T = Unit {0}} tries old new (Err depot.Failed) → AreRemoved tries (key ∷ []) old new (Err (Failed key))
     failed_key cause = unremoved_key (Failed key) (stops_one depot.Failed cause)

@@ -6,7 +6,8 @@ use Rattle.std.proofs.lemmas.Bool.{cases_lt}
 use Rattle.std.proofs.lemmas.List.{append_assoc, append-nil, length-set, get_or-set_same, get_or-set_other}
 use Rattle.cu_store.specs.Faults.{Rose}
 use Rattle.cu_store.specs.Held.{Contents, IsHeldIn}
-use Rattle.cu_store.specs.Steps.{Shown, NoChange, Steps}
+use Rattle.cu_store.specs.Steps.{Shown, NoChange, Steps, OnceEach}
+use Rattle.cu_store.proofs.Once.{once_few}
 use Rattle.cu_store.proofs.Steps.{steps_same, steps_wider}
 use Rattle.cu_op.specs.Cells.{tasks_of}
 use Rattle.cu_op.specs.PlanView.{PlanView}
@@ -21,7 +22,7 @@ use Rattle.cu_work.specs.Order.{task_keys, operation_keys, plan_keys}
 use Rattle.cu_work.specs.Search.{NamesTask, NamesStored, IsSearchFault, AreAsked, IsSearched}
 use Rattle.cu_work.specs.World.{IsStored, IsFound}
 use Rattle.cu_work.proofs.Asking.{operation_rest, plan_rest}
-use Rattle.cu_work.proofs.EndedCalls.{over_both}
+use Rattle.cu_work.proofs.EndedCalls.{once_none, once_both, over_both}
 use Rattle.cu_work.proofs.Searching.{none_grows, none_fills, held_stays, told_then, told_first, stored_of, of_stored, search_before, search_behind}
 
 -- ---- tasks before another
@@ -73,6 +74,7 @@ module _ (tries : ℕ) (p : PlanView) (start : Shown) where
   searched_nothing done tasks = record {
     tasks = tasks;
     step = steps_wider (λ key value change. change) (omega arith) (omega arith) (steps_same NoChange start);
+    once = once_few 0 (length (plan_keys p 0 ++ operation_keys p 0 0)) start start (omega arith) (once_none start);
     stored = λ held told l other before. absurd (none l other before.2);
     named = λ held told l other before. absurd (none l other before.2);
   }
@@ -121,6 +123,7 @@ module _ (tries : ℕ) (p : PlanView) (start : Shown) where
       tasks = length-set done (task_number p k task) all ∙ so_far.tasks;
       step = subst (λ (ks : List (List ℕ)). Steps NoChange (length ks) (tries * length ks) start new) keys_more
           (over_both NoneOf none_grows tries keys_before (task_keys p k task) start now new so_far.step asked.step);
+      once = subst (λ (ks : List (List ℕ)). OnceEach (length ks) start new) keys_more (once_both keys_before (task_keys p k task) start now new so_far.once asked.once);
       stored = λ held told l other before named. elim (last_or_before p k task l other before) [
         | inl same ↦ at_last (λ (x y : ℕ). IsStored p held x y) same (own_stored held told (sym here ∙ to_last (λ (x y : ℕ). NamesTask p (set done (task_number p k task) all) x y) same named))
         | inr earlier ↦ earlier_stored held told l other earlier (sym (elsewhere l other earlier) ∙ named)
@@ -149,6 +152,7 @@ module _ (tries : ℕ) (p : PlanView) (start : Shown) where
   searched_operation k new done so_far = record {
     tasks = so_far.tasks;
     step = subst (λ (ks : List (List ℕ)). Steps NoChange (length ks) (tries * length ks) start new) keys_more so_far.step;
+    once = subst (λ (ks : List (List ℕ)). OnceEach (length ks) start new) keys_more so_far.once;
     stored = λ held told l other before. so_far.stored held told l other (whole_operation p k l other before);
     named = λ held told l other before. so_far.named held told l other (whole_operation p k l other before);
   }
@@ -159,11 +163,17 @@ module _ (tries : ℕ) (p : PlanView) (start : Shown) where
   pub operations_step : (k : ℕ) (new : Shown) (done : List Bool) → IsSearched tries p k 0 (start, new) done → Steps NoChange (length (plan_keys p k)) (tries * length (plan_keys p k)) start new
   operations_step k new done so_far = subst (λ (ks : List (List ℕ)). Steps NoChange (length ks) (tries * length ks) start new) (append-nil (plan_keys p k)) so_far.step
 
+  pub operations_once : (k : ℕ) (new : Shown) (done : List Bool) → IsSearched tries p k 0 (start, new) done → OnceEach (length (plan_keys p k)) start new
+  operations_once k new done so_far = subst (λ (ks : List (List ℕ)). OnceEach (length ks) start new) (append-nil (plan_keys p k)) so_far.once
+
   -- ---- all tasks of the plan
 
   module _ (new : Shown) (done : List Bool) (all : IsSearched tries p (length p.ops) 0 (start, new) done) where
     pub searched_step : Steps NoChange (length (plan_keys p (length p.ops))) (tries * length (plan_keys p (length p.ops))) start new
     searched_step = operations_step (length p.ops) new done all
+
+    pub searched_once : OnceEach (length (plan_keys p (length p.ops))) start new
+    searched_once = operations_once (length p.ops) new done all
 
     pub found_done : (held : Contents) → new.held ≡ Some held → IsFound p held done
     found_done held told = record {
@@ -186,20 +196,20 @@ written_back len xs rest e = ap (λ (n : ℕ). take n (xs ++ rest)) e ∙ take-a
 module _ (tries : ℕ) (p : PlanView) (old new : Shown) (f : FindFault) where
   -- at a task of an operation, behind those before it
   pub operation_ended : (k task : ℕ) (now : Shown) → task < tasks_of p.arrays (op_of p k) → Steps NoChange (length (operation_keys p k task)) (tries * length (operation_keys p k task)) old now
-      → IsSearchFault tries (task_keys p k task) (now, new) f → IsSearchFault tries (operation_keys p k (tasks_of p.arrays (op_of p k))) (old, new) f
-  operation_ended k task now below step fault =
+      → OnceEach (length (operation_keys p k task)) old now → IsSearchFault tries (task_keys p k task) (now, new) f → IsSearchFault tries (operation_keys p k (tasks_of p.arrays (op_of p k))) (old, new) f
+  operation_ended k task now below step once fault =
       let r = operation_rest p k (suc task) (tasks_of p.arrays (op_of p k)) (omega (arith, below)) in
       subst (λ (ks : List (List ℕ)). IsSearchFault tries ks (old, new) f) (sym r.1)
-      (search_before tries (operation_keys p k (suc task)) r.0 (old, new) f (search_behind tries (operation_keys p k task) (task_keys p k task) old now new f step fault))
+      (search_before tries (operation_keys p k (suc task)) r.0 (old, new) f (search_behind tries (operation_keys p k task) (task_keys p k task) old now new f step once fault))
 
   -- at an operation
   pub plan_ended : (k : ℕ) (now : Shown) → k < length p.ops → Steps NoChange (length (plan_keys p k)) (tries * length (plan_keys p k)) old now
-      → IsSearchFault tries (operation_keys p k (tasks_of p.arrays (op_of p k))) (now, new) f → IsSearchFault tries (plan_keys p (length p.ops)) (old, new) f
-  plan_ended k now below step fault =
+      → OnceEach (length (plan_keys p k)) old now → IsSearchFault tries (operation_keys p k (tasks_of p.arrays (op_of p k))) (now, new) f → IsSearchFault tries (plan_keys p (length p.ops)) (old, new) f
+  plan_ended k now below step once fault =
       let r = plan_rest p (suc k) (length p.ops) (omega (arith, below)) in
       subst (λ (ks : List (List ℕ)). IsSearchFault tries ks (old, new) f) (sym r.1)
       (search_before tries (plan_keys p (suc k)) r.0 (old, new) f
-      (search_behind tries (plan_keys p k) (operation_keys p k (tasks_of p.arrays (op_of p k))) old now new f step fault))
+      (search_behind tries (plan_keys p k) (operation_keys p k (tasks_of p.arrays (op_of p k))) old now new f step once fault))
 
 -- ---- the loop over the tasks of an operation
 
@@ -207,6 +217,7 @@ module _ (tries : ℕ) (p : PlanView) (old new : Shown) (f : FindFault) where
 pub record OperationSoFar (tries : ℕ) (p : PlanView) (task : ℕ × ℕ) (shown : Shown × Shown) (done : List Bool × List Bool) : Type 0 where
   pub tasks : length done.1 ≡ task_count p
   pub step : Steps NoChange (length (operation_keys p task.0 task.1)) (tries * length (operation_keys p task.0 task.1)) shown.0 shown.1
+  pub once : OnceEach (length (operation_keys p task.0 task.1)) shown.0 shown.1
   pub searched : (start : Shown) → IsSearched tries p task.0 0 (start, shown.0) done.0 → IsSearched tries p task.0 task.1 (start, shown.1) done.1
 
 module _ (tries : ℕ) (p : PlanView) (k : ℕ) (old : Shown) (first : List Bool) where
@@ -214,6 +225,7 @@ module _ (tries : ℕ) (p : PlanView) (k : ℕ) (old : Shown) (first : List Bool
   operation_at_first tasks = record {
     tasks = tasks;
     step = steps_wider (λ key value change. change) (omega arith) (omega arith) (steps_same NoChange old);
+    once = once_few 0 (length (operation_keys p k 0)) old old (omega arith) (once_none old);
     searched = λ start so_far. so_far;
   }
 
@@ -224,6 +236,8 @@ module _ (tries : ℕ) (p : PlanView) (k : ℕ) (old : Shown) (first : List Bool
       tasks = length-set done (task_number p k task) all ∙ so_far.tasks;
       step = subst (λ (n : ℕ). Steps NoChange (length (operation_keys p k n)) (tries * length (operation_keys p k n)) old new) next
           (over_both NoneOf none_grows tries (operation_keys p k task) (task_keys p k task) old now new so_far.step asked.step);
+      once = subst (λ (n : ℕ). OnceEach (length (operation_keys p k n)) old new) next
+          (once_both (operation_keys p k task) (task_keys p k task) old now new so_far.once asked.once);
       searched = λ start begun. searched_more tries p start k task is now new done all (so_far.searched start begun) asked;
     })
       where

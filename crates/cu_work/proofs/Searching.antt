@@ -4,8 +4,9 @@ use Rattle.std.specs.Prelude.{◌&&◌, IsTrue, IsSome, Ok}
 use Rattle.std.proofs.lemmas.List.{append_assoc, append-nil}
 use Rattle.std.proofs.lemmas.List.Elements.{All-append, All-nil, All-cons, All-weaker, All-head, All-tail, All-contains}
 use Rattle.cu_store.specs.Held.{Contents, Write, Answers, IsHeldIn}
-use Rattle.cu_store.specs.Steps.{Shown, Changes, NoChange, OrLate, IsChangedBy, Lands, Steps}
+use Rattle.cu_store.specs.Steps.{Shown, Changes, NoChange, OrLate, IsChangedBy, Lands, Steps, OnceEach}
 use Rattle.cu_store.specs.declared.faults.DepotFault.TheVariants as depot
+use Rattle.cu_store.proofs.Once.{once_few}
 use Rattle.cu_store.proofs.Steps.{steps_same, steps_wider}
 use Rattle.cu_op.specs.declared.cells.Cell.{Cell}
 use Rattle.cu_op.specs.Cells.{IsChunk}
@@ -19,7 +20,7 @@ use Rattle.cu_work.specs.Ends.{NoneOf}
 use Rattle.cu_work.specs.Order.{task_keys}
 use Rattle.cu_work.specs.Search.{IsSearchFault, AreAsked}
 use Rattle.cu_work.specs.World.{IsStored}
-use Rattle.cu_work.proofs.EndedCalls.{Grows, over_both, ends_before, ends_behind, ends_calls}
+use Rattle.cu_work.proofs.EndedCalls.{Grows, once_none, once_both, over_both, ends_before, ends_behind, ends_calls, ends_once}
 
 pub none_grows : Grows NoneOf
 none_grows ks ls = ((λ key value change. change), (λ key value change. change))
@@ -81,6 +82,7 @@ module _ (tries : ℕ) where
   pub asked_nothing : (shown : Shown) → AreAsked tries [] shown shown true
   asked_nothing shown = record {
     step = steps_wider (λ key value change. change) (omega arith) (omega arith) (steps_same NoChange shown);
+    once = once_few 0 (length {A = List ℕ} []) shown shown (omega arith) (once_none shown);
     held = λ so. All-nil (IsHeldIn shown.held);
     found = λ held told all. refl;
   }
@@ -88,6 +90,7 @@ module _ (tries : ℕ) where
   pub asked_both : (ks ls : List (List ℕ)) (old between new : Shown) (a b : Bool) → AreAsked tries ks old between a → AreAsked tries ls between new b → AreAsked tries (ks ++ ls) old new (a && b)
   asked_both ks ls old between new a b first second = record {
     step = over_both NoneOf none_grows tries ks ls old between new first.step second.step;
+    once = once_both ks ls old between new first.once second.once;
     held = λ so.
         let (so_a, so_b) = both_true a b so in
         All-append (IsHeldIn new.held) ks ls
@@ -118,9 +121,10 @@ module _ (tries : ℕ) where
   true_by None now key b e answer held = cc
   true_by (Some held) now key b e answer (bytes, is) = answer.1 (bytes_some (held key) bytes is)
 
-  pub asked_key : (old new : Shown) (key : List ℕ) (b : Bool) → Steps NoChange 1 tries old new → Answers new.held key (Ok b) → AreAsked tries (key ∷ []) old new b
-  asked_key old new key b step answer = record {
+  pub asked_key : (old new : Shown) (key : List ℕ) (b : Bool) → Steps NoChange 1 tries old new → OnceEach 1 old new → Answers new.held key (Ok b) → AreAsked tries (key ∷ []) old new b
+  asked_key old new key b step once answer = record {
     step = steps_wider (λ k value change. change) (omega arith) (omega arith) step;
+    once = once_few 1 (length (key ∷ [])) old new (omega arith) once;
     held = λ so. All-cons (IsHeldIn new.held) key [] (held_by new.held key b answer so) (All-nil (IsHeldIn new.held));
     found = λ held told all.
         let (now, told_now) = told_then NoChange 1 tries old new step held told in
@@ -133,14 +137,19 @@ module _ (tries : ℕ) where
   search_before ks ls shown (Failed key) e = ends_before NoneOf tries key depot.Failed ks ls shown e
   search_before ks ls shown NoMemory (key, e) = (key, ends_before NoneOf tries key depot.NoMemory ks ls shown e)
 
-  pub search_behind : (ks ls : List (List ℕ)) (old between new : Shown) (f : FindFault) → Steps NoChange (length ks) (tries * length ks) old between → IsSearchFault tries ls (between, new) f
+  pub search_behind : (ks ls : List (List ℕ)) (old between new : Shown) (f : FindFault) → Steps NoChange (length ks) (tries * length ks) old between → OnceEach (length ks) old between
+      → IsSearchFault tries ls (between, new) f
       → IsSearchFault tries (ks ++ ls) (old, new) f
-  search_behind ks ls old between new (Failed key) step e = ends_behind NoneOf tries key depot.Failed none_grows ks ls old between new step e
-  search_behind ks ls old between new NoMemory step (key, e) = (key, ends_behind NoneOf tries key depot.NoMemory none_grows ks ls old between new step e)
+  search_behind ks ls old between new (Failed key) step once e = ends_behind NoneOf tries key depot.Failed none_grows ks ls old between new step once e
+  search_behind ks ls old between new NoMemory step once (key, e) = (key, ends_behind NoneOf tries key depot.NoMemory none_grows ks ls old between new step once e)
 
   pub fault_calls : (keys : List (List ℕ)) (old new : Shown) (f : FindFault) → IsSearchFault tries keys (old, new) f → Steps NoChange 0 (tries * length keys) old new
   fault_calls keys old new (Failed key) e = ends_calls NoneOf tries key depot.Failed keys old new (λ front k value change. change) e
   fault_calls keys old new NoMemory (key, e) = ends_calls NoneOf tries key depot.NoMemory keys old new (λ front k value change. change) e
+
+  pub fault_once : (keys : List (List ℕ)) (old new : Shown) (f : FindFault) → IsSearchFault tries keys (old, new) f → OnceEach (length keys) old new
+  fault_once keys old new (Failed key) e = ends_once NoneOf tries key depot.Failed keys old new e
+  fault_once keys old new NoMemory (key, e) = ends_once NoneOf tries key depot.NoMemory keys old new e
 
 -- ---- the chunks of a task
 
@@ -177,7 +186,7 @@ module _ (tries : ℕ) (p : PlanView) (k task : ℕ) (first now : Shown) (left :
       asked_ended f fault =
           subst (λ (ks : List (List ℕ)). IsSearchFault tries ks (first, new) f) whole
           (search_before tries (so_far.front ++ key_of p.arrays cell ∷ []) (map (key_of p.arrays) later) (first, new) f
-          (search_behind tries so_far.front (key_of p.arrays cell ∷ []) first now new f so_far.asked.step
+          (search_behind tries so_far.front (key_of p.arrays cell ∷ []) first now new f so_far.asked.step so_far.asked.once
           (subst (λ (x : List ℕ). IsSearchFault tries (x ∷ []) (now, new) f) is fault)))
 
       pub asked_more : (held : Bool) → AreAsked tries (key ∷ []) now new held → AskedSoFar tries p (k, task) (first, new) later (all && held)

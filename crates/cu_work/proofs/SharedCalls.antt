@@ -1,6 +1,8 @@
 -- The calls of a run of tasks, by their starts and in all.
 use Rattle.std.proofs.Common.{◌≡◌, ℕ, ◌+◌, ◌*◌, ◌≤◌, Bool, List, ap, ◌∙◌, subst, arith}
+use Rattle.cu_store.specs.Steps.{Shown, OnceEach}
 use Rattle.cu_store.specs.Yard.{Served, Known}
+use Rattle.cu_store.proofs.Once.{once_then}
 use Rattle.cu_history.specs.History.{is_start, count_kind}
 use Rattle.cu_op.specs.PlanView.{PlanView}
 use Rattle.cu_table.specs.Machine.{opening}
@@ -12,6 +14,12 @@ use Rattle.cu_work.specs.Starts.{IsOfWorkers, started_calls, most_starts, most_c
 use Rattle.cu_work.specs.Workers.{HasWorked}
 use Rattle.cu_work.specs.declared.options.RunOptions.{RunOptions}
 use Rattle.cu_work.proofs.Started.{started_most, started_within}
+
+-- a call to share, and those of a pass that began with none
+pub shared_once : (start mid new : Shown) (first last tasks : ℕ) → OnceEach 1 start mid → first ≡ 0 → last ≤ first + tasks → new.calls ≤ mid.calls + last → mid.faults ≤ new.faults → OnceEach (1 + tasks) start new
+shared_once start mid new first last tasks once none ran back grew =
+    let rest : OnceEach tasks mid new = omega (arith, none, ran, back, grew) in
+    once_then 1 tasks start mid new once rest
 
 at_most : (old new s t : ℕ) → new ≤ old + s → s ≤ t → new ≤ old + t
 at_most old new s t few most = omega (arith, few, most)

@@ -3,7 +3,7 @@
 use Rattle.std.specs.Prelude.{◌≡◌, ℕ, ◌*◌, zero, suc, IsTrue, List, [], ◌∷◌, ◌++◌, map, length, All, Contains, Some, None, Result, OnOk, IfErr}
 use Rattle.cu_store.specs.Faults.{Rose}
 use Rattle.cu_store.specs.Held.{Contents, IsHeldIn}
-use Rattle.cu_store.specs.Steps.{Shown, NoChange, Steps}
+use Rattle.cu_store.specs.Steps.{Shown, NoChange, Steps, OnceEach}
 use Rattle.cu_op.specs.Cells.{tasks_of}
 use Rattle.cu_op.specs.PlanView.{PlanView}
 use Rattle.cu_op.specs.Schedule.{op_of, key_of}
@@ -45,10 +45,11 @@ IsWayFault tries old new (Held key) = IsHeldIn new.held key
 IsWayFault tries old new (Failed key) = Rose tries old.faults new.faults
 IsWayFault tries old new NoMemory = IsTrue new.lacks
 
--- Keys were asked for, each at most `tries` times. Where all were free, nothing was held under them at first; else the key at which asking
+-- Keys were asked for, each at most `tries` times, and again only where a call failed. Where all were free, nothing was held under them at first; else the key at which asking
 -- ended is the first of which that isn't known.
 pub record IsAsked (tries : ℕ) (old new : Shown) (keys : List (List ℕ)) (result : Result (Unit {0}) WayFault) : Type 0 where
   pub step : Steps NoChange 0 (tries * length keys) old new
+  pub once : OnceEach (length keys) old new
   pub free : (held : Contents) → old.held ≡ Some held → OnOk result (All (IsFree held) keys)
   pub first : (held : Contents) → old.held ≡ Some held → IfErr result (λ f. IfAsked f (IsFirst held keys))
   pub listed : IfErr result (λ f. IfAsked f (Contains keys))

@@ -2,7 +2,7 @@
 use Rattle.std.specs.Prelude.{◌≡◌, ◌⊎◌, ℕ, ◌*◌, List, [], ◌∷◌, ◌++◌, length, All, Contains, Option, Some, None, Result, OnOk, IfErr}
 use Rattle.cu_store.specs.Faults.{Rose}
 use Rattle.cu_store.specs.Held.{Contents, Write, IsAmong}
-use Rattle.cu_store.specs.Steps.{Shown, Changes, Steps}
+use Rattle.cu_store.specs.Steps.{Shown, Changes, Steps, OnceEach}
 use Rattle.cu_store.specs.declared.faults.DepotFault.{DepotFault}
 use Rattle.cu_store.specs.declared.faults.DepotFault.TheVariants as depot
 use Rattle.cu_op.specs.PlanView.{PlanView}
@@ -38,9 +38,10 @@ abbrev pub IsRemoveFault : ℕ → List (List ℕ) → Shown × Shown → Remove
 IsRemoveFault tries keys shown (Failed key) = StopsAt tries keys shown key depot.Failed
 IsRemoveFault tries keys shown NoMemory = (key : List ℕ) × StopsAt tries keys shown key depot.NoMemory
 
--- Keys were removed, each by at most `tries` calls, and by one at least where all were.
+-- Keys were removed, each by at most `tries` calls, by another only where one failed, and by one at least where all were.
 pub record AreRemoved (tries : ℕ) (keys : List (List ℕ)) (old new : Shown) (result : Result (Unit {0}) RemoveFault) : Type 0 where
   pub step : Steps (RemovalIn keys) 0 (tries * length keys) old new
+  pub once : OnceEach (length keys) old new
   pub called : OnOk result (Rose (length keys) old.calls new.calls)
   pub gone : OnOk result (All (IsGoneBut old.late new.held) keys)
   pub cause : IfErr result (IsRemoveFault tries keys (old, new))

@@ -1,7 +1,7 @@
 -- The tasks of a plan whose chunks are all held, as they are found by asking for each chunk. This project's own rules.
 use Rattle.std.specs.Prelude.{◌≡◌, ◌⊎◌, ℕ, ◌*◌, Bool, true, false, IsTrue, List, ◌++◌, length, slice_index_or, All, Some}
 use Rattle.cu_store.specs.Held.{Contents, IsHeldIn}
-use Rattle.cu_store.specs.Steps.{Shown, NoChange, Steps}
+use Rattle.cu_store.specs.Steps.{Shown, NoChange, Steps, OnceEach}
 use Rattle.cu_store.specs.declared.faults.DepotFault.TheVariants as depot
 use Rattle.cu_op.specs.PlanView.{PlanView}
 use Rattle.cu_run_law.specs.Left.{IsTaskBefore}
@@ -33,10 +33,11 @@ abbrev pub IsSearchFault : ℕ → List (List ℕ) → Shown × Shown → FindFa
 IsSearchFault tries keys shown (Failed key) = EndsAt NoneOf tries keys shown key depot.Failed
 IsSearchFault tries keys shown NoMemory = (key : List ℕ) × EndsAt NoneOf tries keys shown key depot.NoMemory
 
--- Keys were asked for, each at least once and at most `tries` times: all are held afterwards where the answer is yes, and it is yes where all
+-- Keys were asked for, each at least once and at most `tries` times, and again only where a call failed: all are held afterwards where the answer is yes, and it is yes where all
 -- were held before.
 pub record AreAsked (tries : ℕ) (keys : List (List ℕ)) (old new : Shown) (all : Bool) : Type 0 where
   pub step : Steps NoChange (length keys) (tries * length keys) old new
+  pub once : OnceEach (length keys) old new
   pub held : IsTrue all → All (IsHeldIn new.held) keys
   pub found : (held : Contents) → old.held ≡ Some held → All (IsHeldIn old.held) keys → IsTrue all
 
@@ -44,5 +45,6 @@ pub record AreAsked (tries : ℕ) (keys : List (List ℕ)) (old new : Shown) (al
 pub record IsSearched (tries : ℕ) (p : PlanView) (k task : ℕ) (shown : Shown × Shown) (done : List Bool) : Type 0 where
   pub tasks : length done ≡ task_count p
   pub step : Steps NoChange (length (plan_keys p k ++ operation_keys p k task)) (tries * length (plan_keys p k ++ operation_keys p k task)) shown.0 shown.1
+  pub once : OnceEach (length (plan_keys p k ++ operation_keys p k task)) shown.0 shown.1
   pub stored : (held : Contents) → shown.1.held ≡ Some held → (l other : ℕ) → IsTaskBefore (chunks_alone p) k task l other → NamesTask p done l other → IsStored p held l other
   pub named : (held : Contents) → shown.0.held ≡ Some held → (l other : ℕ) → IsTaskBefore (chunks_alone p) k task l other → IsStored p held l other → NamesTask p done l other

@@ -2,7 +2,7 @@
 ghost use Rattle.std.specs.Prelude.{◌≡◌, ◌+◌, ◌*◌, ◌<◌, ◌∷◌, [], length, Some, IfOk, IfErr, OnOk};
 ghost use Rattle.cu_store.specs.Faults.{Rose};
 ghost use Rattle.cu_store.specs.Held.{Contents};
-ghost use Rattle.cu_store.specs.Steps.{Shown, NoChange, Steps};
+ghost use Rattle.cu_store.specs.Steps.{Shown, NoChange, Steps, OnceEach};
 ghost use Rattle.cu_op.specs.Cells.{tasks_of};
 ghost use Rattle.cu_op.specs.Schedule.{op_of};
 ghost use Rattle.cu_table.specs.Numbers.{first_task, task_count};
@@ -138,6 +138,7 @@ pub fn find_done<D: Depot>(
     ensures found { (held : Contents) → (D.shown depot.new).held ≡ Some held → IfOk result (λ done. IsFound plan.now held done.items) }
     ensures all { (held : Contents) → (D.shown depot.old).held ≡ Some held → IfOk result (λ done. NamesStored plan.now held done.items) }
     ensures step { Steps NoChange 0 ((retries + 1) * length (plan_keys plan.now (length plan.now.ops))) (D.shown depot.old) (D.shown depot.new) }
+    ensures once { OnceEach (length (plan_keys plan.now (length plan.now.ops))) (D.shown depot.old) (D.shown depot.new) }
     ensures asked { OnOk result (Rose (length (plan_keys plan.now (length plan.now.ops))) (D.shown depot.old).calls (D.shown depot.new).calls) }
     ensures cause { IfErr result (IsSearchEnd (retries + 1) (plan_keys plan.now (length plan.now.ops)) (D.shown depot.old, D.shown depot.new)) }
 {

@@ -1,14 +1,15 @@
 //! The memory that tasks are lent.
-ghost use Rattle.std.specs.Prelude.{◌≡◌, ◌<◌, IfOk, length};
+ghost use Rattle.std.specs.Prelude.{◌≡◌, ◌<◌, ◌≤◌, IfOk, length, vec_capacity, vec_len};
 ghost use Rattle.cu_work.specs.Rooms.{task_bytes, task_words, rooms_of};
 
 use cu_op::{Plan, projected, steps_within};
 use cu_store::NoMemory;
 use std::alloc::Global;
 use std::marker::Model;
+use std::mem;
 
-/// The memory of one worker: the most bytes and the most words that any task of a plan is lent. It is seen as how many there are
-/// of each.
+/// The memory of one worker: the most bytes and the most words that any task of a plan is lent. It is seen as how many are taken
+/// of each. Of those none is written before a task is lent it.
 #[derive(Drop)]
 pub struct Rooms {
     pub(crate) bytes: Vec<u8>,
@@ -16,16 +17,16 @@ pub struct Rooms {
 }
 
 impl Model for Rooms {
-    ghost use Rattle.std.specs.Prelude.{length};
+    ghost use Rattle.std.specs.Prelude.{vec_capacity};
     ghost use Rattle.cu_work.specs.Rooms.{RoomSizes};
 
     ghost Value = { RoomSizes };
 
-    ghost view = { λ r. record { bytes = length r.bytes.items; words = length r.words.items } };
+    ghost view = { λ r. record { bytes = vec_capacity r.bytes; words = vec_capacity r.words } };
 }
 
 impl Rooms {
-    /// The memory for the tasks of the plan.
+    /// The memory for the tasks of the plan. It is taken, and nothing is written to it.
     pub fn make(alloc: Global, plan: &Plan) -> Result<Rooms, NoMemory>
         ensures { IfOk result (λ rooms. rooms ≡ rooms_of plan.now) }
     {
@@ -35,14 +36,29 @@ impl Rooms {
             most_bytes = task_bytes(plan, op).max(most_bytes);
             most_words = task_words(plan, op).max(most_words);
         }
-        let Ok(bytes) = vec![in alloc; 0u8; most_bytes] else {
+        let Ok(bytes) = Vec::with_capacity(alloc, most_bytes) else {
             return Err(NoMemory);
         };
-        let Ok(words) = vec![in alloc; 0u64; most_words] else {
+        let Ok(words) = Vec::with_capacity(alloc, most_words) else {
             return Err(NoMemory);
         };
         Ok(Rooms { bytes, words })
     }
+}
+
+/// Writes zeros behind these until there are at least so many, within the memory that is taken for them.
+pub(crate) fn write_zeros<T: Copy + Drop>(items: &mut Vec<T>, zero: T, count: usize)
+    requires { count ≤ vec_capacity items.old }
+    ensures many { count ≤ vec_len items.new }
+    ensures taken { vec_capacity items.new ≡ vec_capacity items.old }
+{
+    // Out of the reference, behind which the length would be stored after each item.
+    let none = Vec::new(*items.allocator());
+    let mut filled = mem::replace(items, none);
+    while filled.len() < count {
+        filled.push_reserved(zero);
+    }
+    *items = filled;
 }
 
 /// The bytes that a task of the operation is lent, besides its words.

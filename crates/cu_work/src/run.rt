@@ -2,7 +2,7 @@
 ghost use Rattle.std.specs.Prelude.{◌≡◌, ℕ, ◌+◌, ◌*◌, ◌<◌, ◌≤◌, IsTrue, Some, OnOk, OnErr, IfOk, IfErr};
 ghost use Rattle.cu_store.specs.Faults.{last_count};
 ghost use Rattle.cu_store.specs.Held.{Contents, Holds};
-ghost use Rattle.cu_store.specs.Steps.{PutOf, Steps};
+ghost use Rattle.cu_store.specs.Steps.{PutOf, Steps, OnceEach};
 ghost use Rattle.cu_history.specs.History.{is_start, count_kind};
 ghost use Rattle.cu_op.specs.Elements.{Elements};
 ghost use Rattle.cu_run_law.specs.Left.{IsLeft, RunChange};
@@ -64,6 +64,7 @@ pub enum RunFault {
 fn put_text<D: Depot>(depot: &mut D, key: &Key, text: &[u8], retries: u32) -> Result<(), RunFault>
     ensures stored { OnOk result (Holds (D.shown depot.new).held key.now text.now) }
     ensures step { Steps (PutOf key.now text.now) 1 (retries + 1) (D.shown depot.old) (D.shown depot.new) }
+    ensures once { OnceEach 1 (D.shown depot.old) (D.shown depot.new) }
     ensures cause { IfErr result (IsTextPutFault (retries + 1) key.now (D.shown depot.old) (D.shown depot.new)) }
 {
     match put_tries(depot, key, text, retries) {
@@ -85,6 +86,7 @@ pub fn store_texts<D: Depot>(
 ) -> Result<(), RunFault>
     ensures step { Steps (RunChange (run_of plan.now texts.now) (D.shown depot.old)) 0 (2 * (retries + 1)) (D.shown depot.old) (D.shown depot.new) }
     ensures own { Steps (PutOfText texts.now) 0 (2 * (retries + 1)) (D.shown depot.old) (D.shown depot.new) }
+    ensures once { OnceEach 2 (D.shown depot.old) (D.shown depot.new) }
     ensures stored { (env : Elements) → IsLeft (run_of plan.now texts.now) env (D.shown depot.old) → OnOk result (HoldsTexts (run_of plan.now texts.now) env (D.shown depot.new)) }
     ensures unstored { (env : Elements) → IsLeft (run_of plan.now texts.now) env (D.shown depot.old)
         → IfErr result (IsUnstored (run_of plan.now texts.now) env (retries + 1) (D.shown depot.old) (D.shown depot.new)) }
@@ -108,6 +110,7 @@ fn put_texts<D: Depot>(
     ensures step { Steps (RunChange (run_of plan.now texts.now) (D.shown depot.old)) 0 (2 * (retries + 1)) (D.shown depot.old) (D.shown depot.new) }
     ensures own { Steps (PutOfMissing held texts.now) 0 (2 * (retries + 1)) (D.shown depot.old) (D.shown depot.new) }
     ensures calls { (D.shown depot.new).calls ≤ (D.shown depot.old).calls + missing_texts held * (retries + 1) }
+    ensures once { OnceEach (missing_texts held) (D.shown depot.old) (D.shown depot.new) }
     ensures stored { (env : Elements) → IsLeft (run_of plan.now texts.now) env (D.shown depot.old) → OnOk result (HoldsTexts (run_of plan.now texts.now) env (D.shown depot.new)) }
     ensures unstored { (env : Elements) → IsLeft (run_of plan.now texts.now) env (D.shown depot.old)
         → IfErr result (IsUnstored (run_of plan.now texts.now) env (retries + 1) (D.shown depot.old) (D.shown depot.new)) }
@@ -181,6 +184,9 @@ pub fn run_plan<H: Threads + Wait + Sync, D: Share, G: Gate>(
     ensures workers { IfOk result (λ end. IsOfWorkers options.now.workers memory.table.settings end.table.history) }
     ensures tries { (m : ℕ) → IsTaskMost plan.now m → IfOk result (λ end. (D.shown depot.new).calls
         ≤ (D.shown depot.old).calls + (missing_texts held + 1) * (options.now.retries + 1) + count_kind is_start end.table.history * m) }
+    ensures once { (m : ℕ) → IsTaskMost plan.now m
+        → IfOk result (λ end. OnceEach (missing_texts held + 1 + count_kind is_start end.table.history * m) (D.shown depot.old) (D.shown depot.new)) }
+    ensures begun_once { OnErr result (OnceEach (missing_texts held + 1) (D.shown depot.old) (D.shown depot.new)) }
     ensures begun { OnErr result ((D.shown depot.new).calls ≤ (D.shown depot.old).calls + (missing_texts held + 1) * (options.now.retries + 1)) }
     ensures calls { (D.shown depot.new).calls
         ≤ (D.shown depot.old).calls + (missing_texts held + 1) * (options.now.retries + 1) + most_calls options.now plan.now }

@@ -3,7 +3,7 @@ ghost use Rattle.std.specs.Prelude.{◌≡◌, ℕ, ◌+◌, ◌*◌, ◌<◌, �
 ghost use Rattle.cu_store.specs.Faults.{last_count};
 ghost use Rattle.cu_store.specs.Held.{Contents};
 ghost use Rattle.cu_store.specs.Share.{IsShareFault};
-ghost use Rattle.cu_store.specs.Steps.{NoChange, Steps};
+ghost use Rattle.cu_store.specs.Steps.{NoChange, Steps, OnceEach};
 ghost use Rattle.cu_history.specs.History.{is_start, count_kind};
 ghost use Rattle.cu_op.specs.Elements.{Elements};
 ghost use Rattle.cu_run_law.specs.Left.{IsLeft, RunChange};
@@ -54,6 +54,9 @@ fn run_promised<K: Promised, H: Threads + Wait + Sync, D: Share, G: Gate>(
     ensures workers { IfOk result (λ end. IsOfWorkers options.now.workers memory.table.settings end.table.history) }
     ensures tries { (m : ℕ) → IsTaskMost plan.now m → IfOk result (λ end. (D.shown depot.new).calls
         ≤ (D.shown depot.old).calls + (options.now.retries + 1) + count_kind is_start end.table.history * m) }
+    ensures once { (m : ℕ) → IsTaskMost plan.now m
+        → IfOk result (λ end. OnceEach (1 + count_kind is_start end.table.history * m) (D.shown depot.old) (D.shown depot.new)) }
+    ensures begun_once { OnErr result (OnceEach 1 (D.shown depot.old) (D.shown depot.new)) }
     ensures calls { (D.shown depot.new).calls
         ≤ (D.shown depot.old).calls + (options.now.retries + 1) + most_calls options.now plan.now }
     ensures refused { OnErr result (Steps NoChange 0 (options.now.retries + 1) (D.shown depot.old) (D.shown depot.new)) }
@@ -117,6 +120,9 @@ pub fn run_tasks<H: Threads + Wait + Sync, D: Share, G: Gate>(
     ensures workers { IfOk result (λ end. IsOfWorkers options.now.workers memory.table.settings end.table.history) }
     ensures tries { (m : ℕ) → IsTaskMost plan.now m → IfOk result (λ end. (D.shown depot.new).calls
         ≤ (D.shown depot.old).calls + (options.now.retries + 1) + count_kind is_start end.table.history * m) }
+    ensures once { (m : ℕ) → IsTaskMost plan.now m
+        → IfOk result (λ end. OnceEach (1 + count_kind is_start end.table.history * m) (D.shown depot.old) (D.shown depot.new)) }
+    ensures begun_once { OnErr result (OnceEach 1 (D.shown depot.old) (D.shown depot.new)) }
     ensures calls { (D.shown depot.new).calls
         ≤ (D.shown depot.old).calls + (options.now.retries + 1) + most_calls options.now plan.now }
     ensures refused { OnErr result (Steps NoChange 0 (options.now.retries + 1) (D.shown depot.old) (D.shown depot.new)) }

@@ -40,15 +40,7 @@ fn try_in_rooms<Y: Yard>(
     ensures may { MayReport plan.now op task result (Y.knows pass.new) }
     ensures later { IsLaterIn (Y.serves yard.now).specs (Y.knows pass.old) (Y.knows pass.new) }
 {
-    try_in_yard(
-        plan,
-        yard,
-        pass,
-        op,
-        task,
-        &mut rooms.bytes,
-        &mut rooms.words,
-    )
+    try_in_yard(plan, yard, pass, op, task, rooms)
 }
 
 // Claims, tries and reports tasks until the machine has ended, and tells how. A worker that is told Idle claims again once it

@@ -1,6 +1,7 @@
 use Rattle.std.proofs.Common.{◌+◌, arith}
 use Rattle.cu_command.proofs.SeenLemmas.{stepped_same, stepped_then, within_more, within_few}
 use Rattle.cu_store.specs.Steps.{NoChange}
+use Rattle.cu_store.proofs.Once.{once_then, once_few}
 use Rattle.cu_check.specs.Arrays.{input_chunk_count}
 use Rattle.cu_check.specs.Chunks.{input_of}
 use Rattle.cu_check.proofs.ChunkReads.{none_below, all_below, turn_fault}
@@ -11,6 +12,7 @@ loop-number-init g c = record {
   step = stepped_same NoChange (g.D.Depot.shown c.args.depot.now);
   read = λ entry before. none_below (input_of c.args.info.now) c.args.all.now entry;
   calls = omega arith;
+  once = omega arith;
 }
 
 pub loop-number-preserved : goal.loop-number-preserved
@@ -19,6 +21,8 @@ loop-number-preserved g c = record {
   read = λ entry before. c.in-Ok.ensures.read entry (stepped_then before c.loop-number.invariant.step) (c.loop-number.invariant.read entry before);
   calls = within_more c.loop-number.number (c.args.retries + 1) (g.D.Depot.shown c.args.depot.now) (g.D.Depot.shown c.loop-number.depot) (g.D.Depot.shown c.read_numbered.new.depot)
       c.loop-number.invariant.calls c.read_numbered.ensures.calls;
+  once = once_then c.loop-number.number 1 (g.D.Depot.shown c.args.depot.now) (g.D.Depot.shown c.loop-number.depot) (g.D.Depot.shown c.read_numbered.new.depot)
+      c.loop-number.invariant.once c.read_numbered.ensures.once;
 }
 
 pub returns-in-Err-clause-step : goal.returns-in-Err-clause-step
@@ -43,3 +47,14 @@ returns-in-Err-clause-calls g c =
     within_few (c.loop-number.number + 1) (input_chunk_count (input_of c.args.info.now)) (c.args.retries + 1) (g.D.Depot.shown c.args.depot.now) (g.D.Depot.shown c.read_numbered.new.depot) (omega (arith, c.count-number-end.ensures.count))
     (within_more c.loop-number.number (c.args.retries + 1) (g.D.Depot.shown c.args.depot.now) (g.D.Depot.shown c.loop-number.depot) (g.D.Depot.shown c.read_numbered.new.depot)
     c.loop-number.invariant.calls c.read_numbered.ensures.calls)
+
+pub returns-clause-once : goal.returns-clause-once
+returns-clause-once g c =
+    once_few c.loop-number.number (input_chunk_count (input_of c.args.info.now)) (g.D.Depot.shown c.args.depot.now) (g.D.Depot.shown c.loop-number.depot) (omega (arith, c.count-number-end.ensures.count))
+    c.loop-number.invariant.once
+
+pub returns-in-Err-clause-once : goal.returns-in-Err-clause-once
+returns-in-Err-clause-once g c =
+    once_few (c.loop-number.number + 1) (input_chunk_count (input_of c.args.info.now)) (g.D.Depot.shown c.args.depot.now) (g.D.Depot.shown c.read_numbered.new.depot) (omega (arith, c.count-number-end.ensures.count))
+    (once_then c.loop-number.number 1 (g.D.Depot.shown c.args.depot.now) (g.D.Depot.shown c.loop-number.depot) (g.D.Depot.shown c.read_numbered.new.depot)
+    c.loop-number.invariant.once c.read_numbered.ensures.once)

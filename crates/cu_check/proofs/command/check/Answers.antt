@@ -2,7 +2,7 @@ use Rattle.std.proofs.Common.{◌+◌, ℕ, List, subst}
 use Rattle.cu_command.specs.Seen.{stream, seen}
 use Rattle.cu_check.specs.Check.{Compares}
 use Rattle.cu_check.proofs.Ends.{text_ends}
-use Rattle.cu_check.proofs.TextEnds.{text_within}
+use Rattle.cu_check.proofs.TextEnds.{text_within, text_once}
 use Rattle.cu_check.proofs.command.check.Goals as goal
 
 pub returns-in-Ok : goal.returns-in-Ok
@@ -18,4 +18,6 @@ returns-in-Ok g c =
       };
       calls = text_within (c.args.retries + 1) (stream (g.R.Source.left c.args.src.now) (g.R.Source.faults c.args.src.now)) (stream (g.R.Source.left c.read_all.new.src) (g.R.Source.faults c.read_all.new.src))
           c.in-Ok.text.items (g.D.Depot.shown c.args.depot.now) (g.D.Depot.shown c.check_text.new.depot) c.in-Ok.ensures.text (rw c.deref.ensures.value at c.check_text.ensures.calls);
+      once = text_once (stream (g.R.Source.left c.args.src.now) (g.R.Source.faults c.args.src.now)) (stream (g.R.Source.left c.read_all.new.src) (g.R.Source.faults c.read_all.new.src))
+          c.in-Ok.text.items (g.D.Depot.shown c.args.depot.now) (g.D.Depot.shown c.check_text.new.depot) c.in-Ok.ensures.text (rw c.deref.ensures.value at c.check_text.ensures.once);
     }

@@ -2,7 +2,7 @@ use Rattle.std.proofs.Common.{◌+◌, inl}
 use Rattle.cu_command.proofs.SeenLemmas.{stepped_then}
 use Rattle.cu_command.specs.Seen.{stream, seen}
 use Rattle.cu_check.proofs.Ends.{fault_ends, equal_ends, unwritten_ends, prints_nothing}
-use Rattle.cu_check.proofs.TextEnds.{compared_within}
+use Rattle.cu_check.proofs.TextEnds.{compared_within, compared_once}
 use Rattle.cu_check.proofs.command.check_text.Goals as goal
 
 pub returns-in-Err-clause-answer : goal.returns-in-Err-clause-answer
@@ -62,3 +62,21 @@ pub returns-clause-calls : goal.returns-clause-calls
 returns-clause-calls g c =
     compared_within (c.args.retries + 1) c.args.text.now c.in-Ok.compared.job c.in-Ok.compared.output (g.D.Depot.shown c.args.depot.now) (g.D.Depot.shown c.read_compared.new.depot) (g.D.Depot.shown c.compare_output.new.depot)
     c.in-Ok.ensures.job c.in-Ok.ensures.output c.read_compared.ensures.calls c.compare_output.ensures.calls
+
+pub returns-in-Err-clause-once : goal.returns-in-Err-clause-once
+returns-in-Err-clause-once g c = inl c.read_compared.ensures.once
+
+pub returns-in-Ok-report-clause-once : goal.returns-in-Ok-report-clause-once
+returns-in-Ok-report-clause-once g c =
+    compared_once c.args.text.now c.in-Ok.compared.job c.in-Ok.compared.output (g.D.Depot.shown c.args.depot.now) (g.D.Depot.shown c.read_compared.new.depot) (g.D.Depot.shown c.compare_output.new.depot)
+    c.in-Ok.ensures.job c.in-Ok.ensures.output c.read_compared.ensures.once c.compare_output.ensures.once
+
+pub returns-in-Ok-compare_output-clause-once : goal.returns-in-Ok-compare_output-clause-once
+returns-in-Ok-compare_output-clause-once g c =
+    compared_once c.args.text.now c.in-Ok.compared.job c.in-Ok.compared.output (g.D.Depot.shown c.args.depot.now) (g.D.Depot.shown c.read_compared.new.depot) (g.D.Depot.shown c.compare_output.new.depot)
+    c.in-Ok.ensures.job c.in-Ok.ensures.output c.read_compared.ensures.once c.compare_output.ensures.once
+
+pub returns-clause-once : goal.returns-clause-once
+returns-clause-once g c =
+    compared_once c.args.text.now c.in-Ok.compared.job c.in-Ok.compared.output (g.D.Depot.shown c.args.depot.now) (g.D.Depot.shown c.read_compared.new.depot) (g.D.Depot.shown c.compare_output.new.depot)
+    c.in-Ok.ensures.job c.in-Ok.ensures.output c.read_compared.ensures.once c.compare_output.ensures.once

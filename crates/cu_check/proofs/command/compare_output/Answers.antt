@@ -9,7 +9,7 @@ use Rattle.cu_check.specs.Arrays.{arrays_of_nodes}
 use Rattle.cu_check.specs.Check.{IsCompareFault}
 use Rattle.cu_check.specs.Plains.{AreReadArrays, IsListFault}
 use Rattle.cu_check.proofs.Compared.{whole_inputs, enough, count_of, found_equal, found_unequal, list_fault, output_fault}
-use Rattle.cu_check.proofs.ArrayCalls.{calls_of_array, calls_of_more, calls_of_front}
+use Rattle.cu_check.proofs.ArrayCalls.{calls_of_array, calls_of_more, calls_of_front, once_of_array, once_of_front, once_of_more}
 use Rattle.cu_check.proofs.command.compare_output.Goals as goal
 
 pub whole-requires-clause-types : goal.whole-requires-clause-types
@@ -117,3 +117,32 @@ returns-clause-calls g c =
     calls_of_more (c.args.retries + 1) (arrays_of_nodes c.args.compared.now.job.inputs.items c.args.compared.now.job.expr.nodes) (c.args.compared.now.output ∷ [])
     (g.D.Depot.shown c.args.depot.now) (g.D.Depot.shown c.read_nodes.new.depot) (g.D.Depot.shown c.read_array.new.depot) (rw c.deref.ensures.value at c.read_nodes.ensures.calls)
     (calls_of_array (c.args.retries + 1) c.args.compared.now.output (g.D.Depot.shown c.read_nodes.new.depot) (g.D.Depot.shown c.read_array.new.depot) c.read_array.ensures.calls)
+
+pub returns-in-Err-clause-once : goal.returns-in-Err-clause-once
+returns-in-Err-clause-once g c =
+    once_of_front (arrays_of_nodes c.args.compared.now.job.inputs.items c.args.compared.now.job.expr.nodes) (c.args.compared.now.output ∷ [])
+    (g.D.Depot.shown c.args.depot.now) (g.D.Depot.shown c.read_nodes.new.depot) (rw c.deref.ensures.value at c.read_nodes.ensures.once)
+
+pub returns-in-Err-read_array-clause-once : goal.returns-in-Err-read_array-clause-once
+returns-in-Err-read_array-clause-once g c =
+    once_of_more (arrays_of_nodes c.args.compared.now.job.inputs.items c.args.compared.now.job.expr.nodes) (c.args.compared.now.output ∷ [])
+    (g.D.Depot.shown c.args.depot.now) (g.D.Depot.shown c.read_nodes.new.depot) (g.D.Depot.shown c.read_array.new.depot) (rw c.deref.ensures.value at c.read_nodes.ensures.once)
+    (once_of_array c.args.compared.now.output (g.D.Depot.shown c.read_nodes.new.depot) (g.D.Depot.shown c.read_array.new.depot) c.read_array.ensures.once)
+
+pub returns-in_default-clause-once : goal.returns-in_default-clause-once
+returns-in_default-clause-once g c =
+    once_of_more (arrays_of_nodes c.args.compared.now.job.inputs.items c.args.compared.now.job.expr.nodes) (c.args.compared.now.output ∷ [])
+    (g.D.Depot.shown c.args.depot.now) (g.D.Depot.shown c.read_nodes.new.depot) (g.D.Depot.shown c.read_array.new.depot) (rw c.deref.ensures.value at c.read_nodes.ensures.once)
+    (once_of_array c.args.compared.now.output (g.D.Depot.shown c.read_nodes.new.depot) (g.D.Depot.shown c.read_array.new.depot) c.read_array.ensures.once)
+
+pub returns-in-Ok-compare-clause-once : goal.returns-in-Ok-compare-clause-once
+returns-in-Ok-compare-clause-once g c =
+    once_of_more (arrays_of_nodes c.args.compared.now.job.inputs.items c.args.compared.now.job.expr.nodes) (c.args.compared.now.output ∷ [])
+    (g.D.Depot.shown c.args.depot.now) (g.D.Depot.shown c.read_nodes.new.depot) (g.D.Depot.shown c.read_array.new.depot) (rw c.deref.ensures.value at c.read_nodes.ensures.once)
+    (once_of_array c.args.compared.now.output (g.D.Depot.shown c.read_nodes.new.depot) (g.D.Depot.shown c.read_array.new.depot) c.read_array.ensures.once)
+
+pub returns-clause-once : goal.returns-clause-once
+returns-clause-once g c =
+    once_of_more (arrays_of_nodes c.args.compared.now.job.inputs.items c.args.compared.now.job.expr.nodes) (c.args.compared.now.output ∷ [])
+    (g.D.Depot.shown c.args.depot.now) (g.D.Depot.shown c.read_nodes.new.depot) (g.D.Depot.shown c.read_array.new.depot) (rw c.deref.ensures.value at c.read_nodes.ensures.once)
+    (once_of_array c.args.compared.now.output (g.D.Depot.shown c.read_nodes.new.depot) (g.D.Depot.shown c.read_array.new.depot) c.read_array.ensures.once)

@@ -4,7 +4,7 @@ use Rattle.cu_check.specs.Arrays.{form_arrays}
 use Rattle.cu_check.specs.Chunks.{IsArrayFault}
 use Rattle.cu_check.specs.Plains.{IsReadArray}
 use Rattle.cu_check.proofs.InputNodes.{read_input, array_named}
-use Rattle.cu_check.proofs.ArrayCalls.{calls_of_one}
+use Rattle.cu_check.proofs.ArrayCalls.{calls_of_one, once_of_one}
 use Rattle.cu_check.proofs.Layouts.{named_fits}
 use Rattle.cu_check.proofs.inputs.read_node.Goals as goal
 use Rattle.cu_expr.specs.Inputs.{layout_named}
@@ -45,3 +45,18 @@ pub returns-in-Err-push-clause-calls : goal.returns-in-Err-push-clause-calls
 returns-in-Err-push-clause-calls g c =
     calls_of_one (c.args.retries + 1) c.args.inputs.now c.args.form.now (array_named c.args.inputs.now c.in-Input.name) (g.D.Depot.shown c.args.depot.now) (g.D.Depot.shown c.read_plain.new.depot)
     (ap (form_arrays c.args.inputs.now) c.in-Input.is) (rw c.layout_named.ensures at c.read_plain.ensures.calls)
+
+pub returns-clause-once : goal.returns-clause-once
+returns-clause-once g c =
+    once_of_one c.args.inputs.now c.args.form.now (array_named c.args.inputs.now c.in-Input.name) (g.D.Depot.shown c.args.depot.now) (g.D.Depot.shown c.read_plain.new.depot)
+    (ap (form_arrays c.args.inputs.now) c.in-Input.is) (rw c.layout_named.ensures at c.read_plain.ensures.once)
+
+pub returns-in-Err-clause-once : goal.returns-in-Err-clause-once
+returns-in-Err-clause-once g c =
+    once_of_one c.args.inputs.now c.args.form.now (array_named c.args.inputs.now c.in-Input.name) (g.D.Depot.shown c.args.depot.now) (g.D.Depot.shown c.read_plain.new.depot)
+    (ap (form_arrays c.args.inputs.now) c.in-Input.is) (rw c.layout_named.ensures at c.read_plain.ensures.once)
+
+pub returns-in-Err-push-clause-once : goal.returns-in-Err-push-clause-once
+returns-in-Err-push-clause-once g c =
+    once_of_one c.args.inputs.now c.args.form.now (array_named c.args.inputs.now c.in-Input.name) (g.D.Depot.shown c.args.depot.now) (g.D.Depot.shown c.read_plain.new.depot)
+    (ap (form_arrays c.args.inputs.now) c.in-Input.is) (rw c.layout_named.ensures at c.read_plain.ensures.once)

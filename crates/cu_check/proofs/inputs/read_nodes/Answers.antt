@@ -3,12 +3,13 @@ use Rattle.std.specs.Prelude.{slice_get}
 use Rattle.std.proofs.lemmas.List.{take_all}
 use Rattle.std.proofs.lemmas.Option.{slice_get_read}
 use Rattle.cu_expr.specs.declared.inputs.InputInfo.{InputInfo}
+use Rattle.cu_store.specs.Steps.{OnceEach}
 use Rattle.cu_command.proofs.SeenLemmas.{stepped_then}
 use Rattle.cu_command.specs.Seen.{WithinCalls}
 use Rattle.cu_check.specs.Arrays.{arrays_of_nodes, form_arrays, chunks_of_all}
 use Rattle.cu_check.specs.Plains.{AreReadArrays}
 use Rattle.cu_check.proofs.InputNodes.{arrays_more, node_fault}
-use Rattle.cu_check.proofs.ArrayCalls.{calls_of_more, node_calls}
+use Rattle.cu_check.proofs.ArrayCalls.{calls_of_more, node_calls, once_of_more, node_once}
 use Rattle.cu_check.proofs.inputs.read_nodes.Goals as goal
 
 pub read_node-requires-clause-ranges : goal.read_node-requires-clause-ranges
@@ -31,6 +32,9 @@ loop-node-preserved g c =
       calls = subst (λ (xs : List InputInfo). WithinCalls (chunks_of_all xs * (c.args.retries + 1)) (g.D.Depot.shown c.args.depot.now) (g.D.Depot.shown c.read_node.new.depot)) (sym more)
           (calls_of_more (c.args.retries + 1) (arrays_of_nodes c.args.inputs.now (take c.loop-node.node-index c.args.expr.now.nodes)) (form_arrays c.args.inputs.now c.node-item.result.form)
           (g.D.Depot.shown c.args.depot.now) (g.D.Depot.shown c.loop-node.depot) (g.D.Depot.shown c.read_node.new.depot) c.loop-node.invariant.calls c.read_node.ensures.calls);
+      once = subst (λ (xs : List InputInfo). OnceEach (chunks_of_all xs) (g.D.Depot.shown c.args.depot.now) (g.D.Depot.shown c.read_node.new.depot)) (sym more)
+          (once_of_more (arrays_of_nodes c.args.inputs.now (take c.loop-node.node-index c.args.expr.now.nodes)) (form_arrays c.args.inputs.now c.node-item.result.form)
+          (g.D.Depot.shown c.args.depot.now) (g.D.Depot.shown c.loop-node.depot) (g.D.Depot.shown c.read_node.new.depot) c.loop-node.invariant.once c.read_node.ensures.once);
     }
 
 pub returns-in-Err-clause-step : goal.returns-in-Err-clause-step
@@ -61,3 +65,15 @@ returns-clause-calls g c =
     let same = ap length c.nodes-node-items.ensures.nodes in
     let all = take_all c.loop-node.node-index c.args.expr.now.nodes (omega arith) in
     rw all at c.loop-node.invariant.calls
+
+pub returns-in-Err-clause-once : goal.returns-in-Err-clause-once
+returns-in-Err-clause-once g c =
+    let same = c.nodes-node-items.ensures.nodes in
+    rw (← same) (node_once c.args.inputs.now c.nodes-node-items.result.now c.loop-node.node-index c.node-item.result (g.D.Depot.shown c.args.depot.now) (g.D.Depot.shown c.loop-node.depot)
+    (g.D.Depot.shown c.read_node.new.depot) c.loop-node-test.true c.node-item.is (rw same c.loop-node.invariant.once) c.read_node.ensures.once)
+
+pub returns-clause-once : goal.returns-clause-once
+returns-clause-once g c =
+    let same = ap length c.nodes-node-items.ensures.nodes in
+    let all = take_all c.loop-node.node-index c.args.expr.now.nodes (omega arith) in
+    rw all at c.loop-node.invariant.once

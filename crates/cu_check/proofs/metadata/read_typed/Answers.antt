@@ -8,7 +8,7 @@ use Rattle.cu_command.specs.Seen.{seen}
 use Rattle.cu_command.specs.declared.status.Status.{Status}
 use Rattle.cu_command.proofs.SeenLemmas.{stepped, stepped_same, stepped_then}
 use Rattle.cu_check.specs.Check.{Compares}
-use Rattle.cu_check.proofs.TextEnds.{unread_ends, inputs_end, output_ends, is_output, untyped_ends, inputs_within, output_within}
+use Rattle.cu_check.proofs.TextEnds.{unread_ends, inputs_end, output_ends, is_output, untyped_ends, inputs_within, output_within, inputs_once, output_once}
 use Rattle.cu_check.proofs.metadata.read_typed.Goals as goal
 
 pub returns-in-Err : goal.returns-in-Err
@@ -20,6 +20,7 @@ returns-in-Err g c = record {
       subst (λ (s : Status). Compares (c.args.retries + 1) c.args.text.now (seen out (g.D.Depot.shown c.args.depot.now)) (seen next (g.D.Depot.shown c.args.depot.now)) s) (sym c.from.ensures)
       (unread_ends (c.args.retries + 1) c.args.text.now (seen out (g.D.Depot.shown c.args.depot.now)) (seen next (g.D.Depot.shown c.args.depot.now)) c.in-Err.fault c.in-Err.ensures.fault);
   calls = omega arith;
+  once = omega arith;
 }
 
 pub returns-in-Err-read_inputs-clause-step : goal.returns-in-Err-read_inputs-clause-step
@@ -88,3 +89,22 @@ pub returns-clause-calls : goal.returns-clause-calls
 returns-clause-calls g c =
     output_within (c.args.retries + 1) c.args.text.now c.in-Ok.said.expr (g.D.Depot.shown c.args.depot.now) (g.D.Depot.shown c.read_inputs.new.depot) (g.D.Depot.shown c.read_output.new.depot) c.in-Ok.ensures.said
     c.read_inputs.ensures.step.calls.1 c.read_output.ensures.step.calls.1
+
+pub returns-in-Err-read_inputs-clause-once : goal.returns-in-Err-read_inputs-clause-once
+returns-in-Err-read_inputs-clause-once g c =
+    inputs_once c.args.text.now c.in-Ok.said.expr (g.D.Depot.shown c.args.depot.now) (g.D.Depot.shown c.read_inputs.new.depot) c.in-Ok.ensures.said c.read_inputs.ensures.once
+
+pub returns-in-Err-read_output-clause-once : goal.returns-in-Err-read_output-clause-once
+returns-in-Err-read_output-clause-once g c =
+    output_once c.args.text.now c.in-Ok.said.expr (g.D.Depot.shown c.args.depot.now) (g.D.Depot.shown c.read_inputs.new.depot) (g.D.Depot.shown c.read_output.new.depot) c.in-Ok.ensures.said
+    c.read_inputs.ensures.once c.read_output.ensures.once
+
+pub returns-in-Err-types_in-clause-once : goal.returns-in-Err-types_in-clause-once
+returns-in-Err-types_in-clause-once g c =
+    output_once c.args.text.now c.in-Ok.said.expr (g.D.Depot.shown c.args.depot.now) (g.D.Depot.shown c.read_inputs.new.depot) (g.D.Depot.shown c.read_output.new.depot) c.in-Ok.ensures.said
+    c.read_inputs.ensures.once c.read_output.ensures.once
+
+pub returns-clause-once : goal.returns-clause-once
+returns-clause-once g c =
+    output_once c.args.text.now c.in-Ok.said.expr (g.D.Depot.shown c.args.depot.now) (g.D.Depot.shown c.read_inputs.new.depot) (g.D.Depot.shown c.read_output.new.depot) c.in-Ok.ensures.said
+    c.read_inputs.ensures.once c.read_output.ensures.once

@@ -1,4 +1,5 @@
 use Rattle.cu_region.specs.Reading.{key_at}
+use Rattle.cu_store.proofs.Once.{once_step}
 use Rattle.cu_command.proofs.ChunkReads.{held_chunk, ended}
 use Rattle.cu_command.proofs.SeenLemmas.{stepped}
 use Rattle.cu_command.proofs.chunks.read_once.Goals as goal
@@ -17,3 +18,9 @@ pub returns-in-Err-clause-cause : goal.returns-in-Err-clause-cause
 returns-in-Err-clause-cause g c =
     rw (c.read_end.ensures, c.chunk_key-key.ensures)
     (ended (g.D.Depot.shown c.args.depot.now) (g.D.Depot.shown c.read_chunk.new.access) c.args.info.now.layout (key_at c.args.info.now c.args.coord.now) c.in-Err.fault c.in-Err.ensures.cause)
+
+pub returns-in-Ok-clause-once : goal.returns-in-Ok-clause-once
+returns-in-Ok-clause-once g c = once_step c.read_chunk.ensures.step
+
+pub returns-in-Err-clause-once : goal.returns-in-Err-clause-once
+returns-in-Err-clause-once g c = once_step c.read_chunk.ensures.step

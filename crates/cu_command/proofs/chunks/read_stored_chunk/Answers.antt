@@ -28,3 +28,12 @@ returns-clause-read g c =
 
 pub returns-clause-step : goal.returns-clause-step
 returns-clause-step g c = stepped_then c.loop.invariant.step c.read_once-2.ensures.step
+
+pub returns-in_default-clause-once : goal.returns-in_default-clause-once
+returns-in_default-clause-once g c = omega (arith, c.loop.invariant.calls, c.loop.invariant.rose, c.read_once.ensures.once)
+
+pub returns-in_default-2-clause-once : goal.returns-in_default-2-clause-once
+returns-in_default-2-clause-once g c = omega (arith, c.loop.invariant.calls, c.loop.invariant.rose, c.read_once.ensures.once)
+
+pub returns-clause-once : goal.returns-clause-once
+returns-clause-once g c = omega (arith, c.loop.invariant.calls, c.loop.invariant.rose, c.read_once-2.ensures.once)

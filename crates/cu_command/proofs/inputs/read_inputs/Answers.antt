@@ -4,7 +4,7 @@ use Rattle.std.proofs.lemmas.List.{length-map}
 use Rattle.std.proofs.lemmas.Option.{slice_get_read}
 use Rattle.cu_expr.specs.declared.inputs.InputInfo.{InputInfo}
 use Rattle.cu_form.specs.declared.expr.Node.{Node}
-use Rattle.cu_store.specs.Steps.{NoChange, Steps}
+use Rattle.cu_store.specs.Steps.{NoChange, Steps, OnceEach}
 use Rattle.cu_command.specs.Inputs.{name_before, used_names, names_from, names_of, names_in, IsInputFault, HasRead}
 use Rattle.cu_command.proofs.InputLemmas.{next_names, end_names, read_none, written_back}
 use Rattle.cu_command.proofs.inputs.read_inputs.Goals as goal
@@ -25,6 +25,16 @@ returns-in-Err-clause-step g c =
     ∙ next_names (names_from [] (used_names nodes)) nodes c.loop-node.node-index c.node-item.result c.loop-node.inputs.items c.loop-node-test.true c.node-item.is c.loop-node.invariant.whole in
     subst (λ (names : List (List ℕ)). Steps NoChange 0 (2 * (c.args.retries + 1) * length names) (g.D.Depot.shown c.args.depot.now) (g.D.Depot.shown c.read_next.new.depot)) (sym all)
     (c.in-Err.ensures.step (g.D.Depot.shown c.args.depot.now) rest c.loop-node.invariant.read)
+
+pub returns-in-Err-clause-once : goal.returns-in-Err-clause-once
+returns-in-Err-clause-once g c =
+    let nodes = c.nodes-node-items.result.now in
+    let rest = used_names (drop (c.loop-node.node-index + 1) nodes) in
+    let all : names_in c.args.expr.now ≡ names_from (names_of c.loop-node.inputs.items) (name_before c.node-item.result.form rest) =
+    ap (λ (ns : List Node). names_from [] (used_names ns)) (sym c.nodes-node-items.ensures.nodes)
+    ∙ next_names (names_from [] (used_names nodes)) nodes c.loop-node.node-index c.node-item.result c.loop-node.inputs.items c.loop-node-test.true c.node-item.is c.loop-node.invariant.whole in
+    subst (λ (names : List (List ℕ)). OnceEach (2 * length names) (g.D.Depot.shown c.args.depot.now) (g.D.Depot.shown c.read_next.new.depot)) (sym all)
+    (c.in-Err.ensures.once (g.D.Depot.shown c.args.depot.now) rest c.loop-node.invariant.read)
 
 pub returns-in-Err-clause-cause : goal.returns-in-Err-clause-cause
 returns-in-Err-clause-cause g c =
@@ -64,5 +74,7 @@ returns g c =
       read = c.loop-node.invariant.read.read;
       step = subst (λ (n : ℕ). Steps NoChange 0 (2 * (c.args.retries + 1) * n) (g.D.Depot.shown c.args.depot.now) (g.D.Depot.shown c.loop-node.depot))
           (sym (length-map inputs (λ (i : InputInfo). i.name)) ∙ ap length all) c.loop-node.invariant.read.step;
+      once = subst (λ (n : ℕ). OnceEach (2 * n) (g.D.Depot.shown c.args.depot.now) (g.D.Depot.shown c.loop-node.depot))
+          (sym (length-map inputs (λ (i : InputInfo). i.name)) ∙ ap length all) c.loop-node.invariant.read.once;
       cause = tt;
     }

@@ -1,8 +1,8 @@
 use Rattle.std.proofs.Common.{◌≡◌, ℕ, ◌+◌, ◌*◌, List, ◌∷◌, length, true, false, sym, subst, arith}
-use Rattle.cu_store.specs.Steps.{NoChange, Steps}
+use Rattle.cu_store.specs.Steps.{NoChange, Steps, OnceEach}
 use Rattle.cu_command.specs.Stored.{FindsLayout}
 use Rattle.cu_command.specs.Inputs.{names_of, names_from, IsInputFault}
-use Rattle.cu_command.proofs.InputLemmas.{was_named, of_form, seen_name, pushed_name, turn_of, step_more, count_of, read_more, fault_at}
+use Rattle.cu_command.proofs.InputLemmas.{was_named, of_form, seen_name, pushed_name, turn_of, step_more, once_more, count_of, read_more, fault_at}
 use Rattle.cu_command.proofs.inputs.read_next.Goals as goal
 
 pub returns-then-has_name-clause-names : goal.returns-then-has_name-clause-names
@@ -37,6 +37,24 @@ returns-in-Err-push-clause-step g c entry rest so_far =
     of_form (λ names. Steps NoChange 0 (2 * (c.args.retries + 1) * length (names_from (names_of old) names)) entry (g.D.Depot.shown c.read_input.new.depot)) c.args.form.now name rest c.in-Input.is
     (step_more (length old) (length (names_from (names_of old) (name ∷ rest))) (count_of old name rest fresh) so_far.step c.read_input.ensures.step)
 
+pub returns-in-Err-clause-once : goal.returns-in-Err-clause-once
+returns-in-Err-clause-once g c entry rest so_far =
+    let old = c.args.inputs.now.items in
+    let name = c.in-Input.name in
+    let fresh = was_named name old c.deref.result.now c.has_name.result false c.deref.ensures.value c.has_name.ensures c.if-has_name.false in
+    of_form (λ names. OnceEach (2 * length (names_from (names_of old) names)) entry (g.D.Depot.shown c.read_input.new.depot)) c.args.form.now name rest c.in-Input.is
+    (once_more (length old) (length (names_from (names_of old) (name ∷ rest))) entry (g.D.Depot.shown c.args.depot.now) (g.D.Depot.shown c.read_input.new.depot)
+    (count_of old name rest fresh) so_far.once c.read_input.ensures.once)
+
+pub returns-in-Err-push-clause-once : goal.returns-in-Err-push-clause-once
+returns-in-Err-push-clause-once g c entry rest so_far =
+    let old = c.args.inputs.now.items in
+    let name = c.in-Input.name in
+    let fresh = was_named name old c.deref.result.now c.has_name.result false c.deref.ensures.value c.has_name.ensures c.if-has_name.false in
+    of_form (λ names. OnceEach (2 * length (names_from (names_of old) names)) entry (g.D.Depot.shown c.read_input.new.depot)) c.args.form.now name rest c.in-Input.is
+    (once_more (length old) (length (names_from (names_of old) (name ∷ rest))) entry (g.D.Depot.shown c.args.depot.now) (g.D.Depot.shown c.read_input.new.depot)
+    (count_of old name rest fresh) so_far.once c.read_input.ensures.once)
+
 pub returns-in-Ok-push-clause-names : goal.returns-in-Ok-push-clause-names
 returns-in-Ok-push-clause-names g c rest =
     let old = c.args.inputs.now.items in
@@ -49,4 +67,4 @@ pub returns-in-Ok-push-clause-read : goal.returns-in-Ok-push-clause-read
 returns-in-Ok-push-clause-read g c entry so_far =
     let holds = subst (λ (n : List ℕ). FindsLayout (g.D.Depot.shown c.args.depot.now).held (g.D.Depot.shown c.read_input.new.depot).held n c.in-Ok.input.layout) (sym c.in-Ok.ensures.name) c.in-Ok.ensures.found in
     read_more entry (g.D.Depot.shown c.args.depot.now) (g.D.Depot.shown c.read_input.new.depot) c.args.inputs.now.items c.push.new.self.items c.in-Ok.input so_far c.in-Ok-push.ensures.items
-    c.in-Ok.ensures.layout holds c.read_input.ensures.step
+    c.in-Ok.ensures.layout holds c.read_input.ensures.step c.read_input.ensures.once

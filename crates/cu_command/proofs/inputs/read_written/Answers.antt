@@ -16,6 +16,7 @@ returns-in-Err g c = record {
   layout = tt;
   found = tt;
   step = steps_wider (λ key value own. own) (omega arith) (omega arith) c.in-Err.ensures.step;
+  once = c.in-Err.ensures.once;
   cause = rw c.metadata_fault.ensures (rw c.key_of_name.ensures.key at c.in-Err.ensures.cause);
 }
 
@@ -26,5 +27,6 @@ returns-in-Ok g c = record {
   layout = c.in-Ok.ensures.input;
   found = rw c.key_of_name.ensures.key at c.in-Ok.ensures.found;
   step = steps_wider (λ key value own. own) (omega arith) (omega arith) c.in-Ok.ensures.step;
+  once = c.in-Ok.ensures.once;
   cause = tt;
 }

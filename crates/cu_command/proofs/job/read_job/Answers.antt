@@ -1,9 +1,9 @@
-use Rattle.std.proofs.Common.{◌≡◌, ◌+◌, ◌*◌, List, Ok, length, subst}
+use Rattle.std.proofs.Common.{◌≡◌, ◌+◌, ◌*◌, List, Ok, length, subst, arith}
 use Rattle.cu_expr.specs.Typing.{typed}
 use Rattle.cu_expr.specs.declared.inputs.InputInfo.{InputInfo}
 use Rattle.cu_command.specs.Job.{names_said, IsUntyped}
 use Rattle.cu_command.proofs.InputLemmas.{no_step}
-use Rattle.cu_command.proofs.JobLemmas.{unread_fault, untyped_fault, input_fault, said_step, layouts_of, only_memory}
+use Rattle.cu_command.proofs.JobLemmas.{unread_fault, untyped_fault, input_fault, said_step, said_once, layouts_of, only_memory}
 use Rattle.cu_command.proofs.job.read_job.Goals as goal
 
 unread : goal.returns-in-Err-clause-cause
@@ -67,3 +67,18 @@ returns-clause-job g c = record {
 pub returns-clause-step : goal.returns-clause-step
 returns-clause-step g c =
     said_step (2 * (c.args.retries + 1)) c.args.text.now c.in-Ok.said.expr (g.D.Depot.shown c.args.depot.now) (g.D.Depot.shown c.read_inputs.new.depot) c.in-Ok.ensures.said c.read_inputs.ensures.step
+
+pub returns-in-Err-clause-once : goal.returns-in-Err-clause-once
+returns-in-Err-clause-once g c = omega arith
+
+pub returns-in-Err-read_inputs-clause-once : goal.returns-in-Err-read_inputs-clause-once
+returns-in-Err-read_inputs-clause-once g c =
+    said_once c.args.text.now c.in-Ok.said.expr (g.D.Depot.shown c.args.depot.now) (g.D.Depot.shown c.read_inputs.new.depot) c.in-Ok.ensures.said c.read_inputs.ensures.once
+
+pub returns-in-Err-types_in-clause-once : goal.returns-in-Err-types_in-clause-once
+returns-in-Err-types_in-clause-once g c =
+    said_once c.args.text.now c.in-Ok.said.expr (g.D.Depot.shown c.args.depot.now) (g.D.Depot.shown c.read_inputs.new.depot) c.in-Ok.ensures.said c.read_inputs.ensures.once
+
+pub returns-clause-once : goal.returns-clause-once
+returns-clause-once g c =
+    said_once c.args.text.now c.in-Ok.said.expr (g.D.Depot.shown c.args.depot.now) (g.D.Depot.shown c.read_inputs.new.depot) c.in-Ok.ensures.said c.read_inputs.ensures.once

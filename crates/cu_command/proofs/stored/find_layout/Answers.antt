@@ -1,5 +1,6 @@
 use Rattle.std.proofs.Common.{◌+◌, ◌*◌, arith}
 use Rattle.cu_store.specs.Steps.{NoChange, Steps}
+use Rattle.cu_store.proofs.Once.{once_then}
 use Rattle.cu_store.proofs.Steps.{steps_then, steps_wider}
 use Rattle.cu_command.proofs.StoredLemmas.{found_second, second_faults}
 use Rattle.cu_command.proofs.stored.find_layout.Goals as goal
@@ -19,5 +20,6 @@ returns-in-Err-NoArray g c =
       input = c.read_layout_of_v2.ensures.input;
       found = found_second tries old mid new name gone c.in-Err-NoArray.ensures.step c.read_layout_of_v2.result c.read_layout_of_v2.ensures.found;
       step = both;
+      once = once_then 1 1 old mid new c.in-Err-NoArray.ensures.once c.read_layout_of_v2.ensures.once;
       cause = second_faults tries old mid new name gone c.in-Err-NoArray.ensures.step c.read_layout_of_v2.result both c.read_layout_of_v2.ensures.cause;
     }

@@ -28,5 +28,6 @@ returns-in-Err g c =
       input = tt;
       found = tt;
       step = c.in-Err.ensures.step;
+      once = c.in-Err.ensures.once;
       cause = zarray_text_fault (c.args.retries + 1) (g.D.Depot.shown c.args.depot.now) new c.args.name.now c.in-Err.status (rw c.zarray_key.ensures at c.in-Err.ensures.cause);
     }

@@ -8,6 +8,7 @@ returns-in-Ok-Held g c = record {
   within = omega arith;
   found = short_front _ c.args.key.now c.get_tries.new.buf c.in-Ok-Held.len (rw c.in-Ok-Held.field-0-is at c.in-Ok-Held.ensures.got) (omega (arith, c.get_tries.auto.buf));
   step = c.get_tries.ensures.step;
+  once = c.get_tries.ensures.once;
   cause = tt;
 }
 
@@ -20,6 +21,7 @@ returns-in-Ok-Held-2 g c =
       within = omega arith;
       found = long_front _ c.args.key.now c.get_tries.new.buf c.in-Ok-Held.len (rw c.in-Ok-Held.field-0-is at c.in-Ok-Held.ensures.got) (omega arith) (omega arith);
       step = c.get_tries.ensures.step;
+      once = c.get_tries.ensures.once;
       cause = tt;
     }
 
@@ -29,6 +31,7 @@ returns-in-Ok-Absent g c = record {
   within = tt;
   found = tt;
   step = c.get_tries.ensures.step;
+  once = c.get_tries.ensures.once;
   cause = (c.name_of.ensures, gone_of _ c.args.key.now c.get_tries.new.buf (rw c.in-Ok-Absent.field-0-is at c.in-Ok-Absent.ensures.got));
 }
 
@@ -38,8 +41,9 @@ returns-in-Err-Failed g c = record {
   within = tt;
   found = tt;
   step = c.get_tries.ensures.step;
+  once = c.get_tries.ensures.once;
   cause = (refl, (rw c.in-Err-Failed.field-0-is at c.in-Err-Failed.ensures.cause).0);
 }
 
 pub returns-in-Err-NoMemory : goal.returns-in-Err-NoMemory
-returns-in-Err-NoMemory g c = record { room = omega (arith, c.get_tries.auto.buf); within = tt; found = tt; step = c.get_tries.ensures.step; cause = tt }
+returns-in-Err-NoMemory g c = record { room = omega (arith, c.get_tries.auto.buf); within = tt; found = tt; step = c.get_tries.ensures.step; once = c.get_tries.ensures.once; cause = tt }

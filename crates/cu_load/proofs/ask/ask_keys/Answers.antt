@@ -1,5 +1,6 @@
 use Rattle.std.proofs.Common.{subst, List, ℕ, arith}
 use Rattle.cu_store.specs.Held.{IsGone}
+use Rattle.cu_store.proofs.Once.{once_then, once_few}
 use Rattle.cu_store.proofs.Steps.{steps_then, steps_wider}
 use Rattle.cu_command.proofs.SeenLemmas.{stepped}
 use Rattle.cu_load.proofs.AskLemmas.{all_free, asked_behind}
@@ -21,3 +22,10 @@ returns-clause-step g c = steps_wider (λ key value own. own) (omega arith) (ome
 
 pub returns-in-Err-clause-step : goal.returns-in-Err-clause-step
 returns-in-Err-clause-step g c = steps_wider (λ key value own. own) (omega arith) (omega arith) c.refuse_held.ensures.step
+
+pub returns-clause-once : goal.returns-clause-once
+returns-clause-once g c =
+    once_then 1 2 (g.D.Depot.shown c.args.depot.now) (g.D.Depot.shown c.refuse_held.new.depot) (g.D.Depot.shown c.ask_metadata.new.depot) c.refuse_held.ensures.once c.ask_metadata.ensures.once
+
+pub returns-in-Err-clause-once : goal.returns-in-Err-clause-once
+returns-in-Err-clause-once g c = once_few 1 3 (g.D.Depot.shown c.args.depot.now) (g.D.Depot.shown c.refuse_held.new.depot) (omega arith) c.refuse_held.ensures.once

@@ -1,6 +1,7 @@
 use Rattle.std.proofs.Common.{◌∙◌, inr, subst, List, ℕ, arith}
 use Rattle.cu_store.specs.Held.{IsGone}
 use Rattle.cu_zarr.specs.Key.{metadata_key_of, zarray_key_of}
+use Rattle.cu_store.proofs.Once.{once_then, once_few}
 use Rattle.cu_store.proofs.Steps.{steps_then, steps_wider}
 use Rattle.cu_command.proofs.SeenLemmas.{stepped, stepped_then, gone_before}
 use Rattle.cu_load.proofs.AskLemmas.{on_ok, if_err, ask_fault_more}
@@ -26,3 +27,10 @@ returns-clause-step g c = steps_wider (λ key value own. own) (omega arith) (ome
 
 pub returns-in-Err-clause-step : goal.returns-in-Err-clause-step
 returns-in-Err-clause-step g c = steps_wider (λ key value own. own) (omega arith) (omega arith) c.refuse_held.ensures.step
+
+pub returns-clause-once : goal.returns-clause-once
+returns-clause-once g c =
+    once_then 1 1 (g.D.Depot.shown c.args.depot.now) (g.D.Depot.shown c.refuse_held.new.depot) (g.D.Depot.shown c.refuse_held-2.new.depot) c.refuse_held.ensures.once c.refuse_held-2.ensures.once
+
+pub returns-in-Err-clause-once : goal.returns-in-Err-clause-once
+returns-in-Err-clause-once g c = once_few 1 2 (g.D.Depot.shown c.args.depot.now) (g.D.Depot.shown c.refuse_held.new.depot) (omega arith) c.refuse_held.ensures.once

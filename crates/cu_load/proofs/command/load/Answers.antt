@@ -17,4 +17,11 @@ returns g c = record {
     gives = rw c.deref.ensures.value at c.in-Ok-read_load.ensures.ok;
     is_so = c.store_form.ensures.calls;
   });
+  once = inr (record {
+    text = c.in-Ok.text.items;
+    read = c.in-Ok.ensures.text;
+    array = given_by c.in-Ok-read_load.form;
+    gives = rw c.deref.ensures.value at c.in-Ok-read_load.ensures.ok;
+    is_so = c.store_form.ensures.once;
+  });
 }

@@ -1,4 +1,5 @@
 use Rattle.std.proofs.Common.{◌≡◌, ◌+◌, ap, ◌∙◌, arith}
+use Rattle.cu_store.proofs.Once.{once_then, once_few}
 use Rattle.cu_zarr.specs.Key.{metadata_key_of}
 use Rattle.cu_command.proofs.SeenLemmas.{stepped, stepped_then, stepped_wider, within_more, within_few}
 use Rattle.cu_load.specs.Load.{IsArrayCalm, chunks_in}
@@ -37,6 +38,16 @@ pub returns-in-Err-clause-calls : goal.returns-in-Err-clause-calls
 returns-in-Err-clause-calls g c =
     within_few (chunks_in (given_by c.args.form.now)) (chunks_in (given_by c.args.form.now) + 1) (c.args.retries + 1) (g.D.Depot.shown c.args.depot.now) (g.D.Depot.shown c.store_chunks.new.depot) (omega arith)
     c.store_chunks.ensures.calls
+
+pub returns-clause-once : goal.returns-clause-once
+returns-clause-once g c =
+    once_then (chunks_in (given_by c.args.form.now)) 1 (g.D.Depot.shown c.args.depot.now) (g.D.Depot.shown c.store_chunks.new.depot) (g.D.Depot.shown c.put_value.new.depot)
+    c.store_chunks.ensures.once c.put_value.ensures.once
+
+pub returns-in-Err-clause-once : goal.returns-in-Err-clause-once
+returns-in-Err-clause-once g c =
+    once_few (chunks_in (given_by c.args.form.now)) (chunks_in (given_by c.args.form.now) + 1) (g.D.Depot.shown c.args.depot.now) (g.D.Depot.shown c.store_chunks.new.depot) (omega arith)
+    c.store_chunks.ensures.once
 
 pub returns-clause-stores : goal.returns-clause-stores
 returns-clause-stores g c calm =

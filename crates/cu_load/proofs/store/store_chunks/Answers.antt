@@ -1,6 +1,8 @@
 use Rattle.std.proofs.Common.{◌≡◌, ◌<◌, ◌≤◌, ◌+◌, ◌*◌, ℕ, subst, arith, sym}
 use Rattle.cu_command.proofs.SeenLemmas.{stepped, stepped_then, stepped_wider, within_more, within_few}
 use Rattle.cu_command.specs.Seen.{Stepped, WithinCalls}
+use Rattle.cu_store.specs.Steps.{OnceEach}
+use Rattle.cu_store.proofs.Once.{once_then, once_few}
 use Rattle.cu_load.specs.Load.{ChunksPut, HoldsChunks, chunks_in}
 use Rattle.cu_load.specs.LoadForm.{given_by}
 use Rattle.cu_load.proofs.StoreLemmas.{next_put, more_put, chunk_put, chunks_put, values_stay, more_stored, chunk_fault, some_stay}
@@ -26,6 +28,17 @@ returns-in-Err-clause-calls g c =
     (within_more c.loop-number.number (c.args.retries + 1) (g.D.Depot.shown c.args.depot.now) (g.D.Depot.shown c.loop-number.depot) (g.D.Depot.shown c.store_chunk.new.depot)
     c.loop-number.invariant.calls c.store_chunk.ensures.step.calls.1)
 
+pub returns-in-Err-clause-once : goal.returns-in-Err-clause-once
+returns-in-Err-clause-once g c =
+    let below : c.loop-number.number + 1 ≤ chunks_in (given_by c.args.form.now) = omega (arith, c.count-number-end.ensures.count) in
+    once_few (c.loop-number.number + 1) (chunks_in (given_by c.args.form.now)) (g.D.Depot.shown c.args.depot.now) (g.D.Depot.shown c.store_chunk.new.depot) below
+    (once_then c.loop-number.number 1 (g.D.Depot.shown c.args.depot.now) (g.D.Depot.shown c.loop-number.depot) (g.D.Depot.shown c.store_chunk.new.depot) c.loop-number.invariant.once c.store_chunk.ensures.once)
+
+pub returns-clause-once : goal.returns-clause-once
+returns-clause-once g c =
+    let all : chunks_in (given_by c.args.form.now) ≡ c.loop-number.number = omega (arith, c.count-number-end.ensures.count) in
+    subst (λ (n : ℕ). OnceEach n (g.D.Depot.shown c.args.depot.now) (g.D.Depot.shown c.loop-number.depot)) (sym all) c.loop-number.invariant.once
+
 pub returns-clause-calls : goal.returns-clause-calls
 returns-clause-calls g c =
     let all : chunks_in (given_by c.args.form.now) ≡ c.loop-number.number = omega (arith, c.count-number-end.ensures.count) in
@@ -45,6 +58,7 @@ loop-number-preserved g c =
           (c.loop-number.invariant.stored calm) c.in_default.ensures.stored;
       calls = within_more c.loop-number.number (c.args.retries + 1) (g.D.Depot.shown c.args.depot.now) (g.D.Depot.shown c.loop-number.depot) (g.D.Depot.shown c.store_chunk.new.depot)
           c.loop-number.invariant.calls c.store_chunk.ensures.step.calls.1;
+      once = once_then c.loop-number.number 1 (g.D.Depot.shown c.args.depot.now) (g.D.Depot.shown c.loop-number.depot) (g.D.Depot.shown c.store_chunk.new.depot) c.loop-number.invariant.once c.store_chunk.ensures.once;
     }
 
 pub returns-clause-step : goal.returns-clause-step

@@ -1,4 +1,5 @@
 use Rattle.std.proofs.Common.{◌+◌, ◌*◌}
+use Rattle.cu_store.specs.Steps.{OnceEach}
 use Rattle.cu_command.specs.Seen.{Stepped, WithinCalls}
 use Rattle.cu_load.specs.Load.{ChunksPut, IsArrayCalm, HoldsChunks}
 use Rattle.cu_load.specs.LoadForm.{given_by}
@@ -9,4 +10,5 @@ invariant-loop-number g l = record {
   step : Stepped (ChunksPut (given_by l.form) l.number) (g.D.Depot.shown l.fn.depot) (g.D.Depot.shown l.depot);
   stored : IsArrayCalm (given_by l.form) (g.D.Depot.shown l.fn.depot).late → HoldsChunks (given_by l.form) (g.D.Depot.shown l.depot).held l.number;
   calls : WithinCalls (l.number * (l.retries + 1)) (g.D.Depot.shown l.fn.depot) (g.D.Depot.shown l.depot);
+  once : OnceEach l.number (g.D.Depot.shown l.fn.depot) (g.D.Depot.shown l.depot);
 }

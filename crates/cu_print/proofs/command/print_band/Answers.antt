@@ -140,14 +140,14 @@ returns-in-Ok-read-clause-calls g c axis sizes starts =
     let whole : product (differences c.run_from-region.result.hi c.run_from-region.result.lo) ≡ c.elements-count.result = sym (c.elements-count.ensures ∙ ap product c.extents.ensures) in
     subst (IsBandRead (c.args.retries + 1) axis c.args.place.array.info.now.layout.grid c.args.place.start (g.D.Depot.shown c.args.depot.now) (g.D.Depot.shown c.read_band-read.new.depot)) whole
     (band_read (c.args.retries + 1) axis c.args.place.array.info.now.layout.grid c.args.place.start c.run_from-region.result.lo c.run_from-region.result.hi (g.D.Depot.shown c.args.depot.now) (g.D.Depot.shown c.read_band-read.new.depot)
-    (step g here axis sizes starts) c.read_band-read.ensures.calls)
+    (step g here axis sizes starts) c.read_band-read.ensures.calls c.read_band-read.ensures.once)
 
 pub returns-in-Err-clause-calls_end : goal.returns-in-Err-clause-calls_end
 returns-in-Err-clause-calls_end g c axis sizes starts =
     band_end (c.args.retries + 1) axis c.args.place.array.info.now.layout.grid c.args.place.start c.run_from-region.result.lo c.run_from-region.result.hi (g.D.Depot.shown c.args.depot.now) (g.D.Depot.shown c.read_band-read.new.depot)
-    (step g (goal.at.returns-in-Err-clause-calls_end g c).After-row_of-row axis sizes starts) c.read_band-read.ensures.calls
+    (step g (goal.at.returns-in-Err-clause-calls_end g c).After-row_of-row axis sizes starts) c.read_band-read.ensures.calls c.read_band-read.ensures.once
 
 pub returns-in-Err-read-clause-calls_end : goal.returns-in-Err-read-clause-calls_end
 returns-in-Err-read-clause-calls_end g c axis sizes starts =
     band_end (c.args.retries + 1) axis c.args.place.array.info.now.layout.grid c.args.place.start c.run_from-region.result.lo c.run_from-region.result.hi (g.D.Depot.shown c.args.depot.now) (g.D.Depot.shown c.read_band-read.new.depot)
-    (step g (goal.at.returns-in-Err-read-clause-calls_end g c).After-row_of-row axis sizes starts) c.read_band-read.ensures.calls
+    (step g (goal.at.returns-in-Err-read-clause-calls_end g c).After-row_of-row axis sizes starts) c.read_band-read.ensures.calls c.read_band-read.ensures.once

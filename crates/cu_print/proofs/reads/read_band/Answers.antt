@@ -21,6 +21,7 @@ loop-coord-init g c =
           ((c.cover-coord-items.ensures.exactly (quotients idx c.args.info.now.layout.grid.chunk)).1
           (meets_own c.args.info.now c.args.region.now.lo c.args.region.now.hi idx c.cover-coord-items.ensures.kept c.requires.region w)));
       calls = let all = ap (λ xs. length xs * (c.args.retries + 1)) (e ∙ c.cover-coord-items.ensures.chunks) in omega (arith, all);
+      once = let all = ap length (e ∙ c.cover-coord-items.ensures.chunks) in omega (arith, all);
     }
 
 pub read_part-requires-clause-meets : goal.read_part-requires-clause-meets
@@ -41,6 +42,7 @@ loop-coord-preserved g c =
           (g.D.Depot.shown c.args.depot.now) (g.D.Depot.shown c.loop-coord.depot) c.loop-coord.invariant.step c.in-Ok.ensures.part c.in-Ok.ensures.others
           (subst (λ (x : List (List ℕ)). ReadsLeft c.args.info.now c.args.region.now (g.D.Depot.shown c.args.depot.now) x c.loop-coord.out) e c.loop-coord.invariant.read);
       calls = let one = ap (λ xs. length xs * (c.args.retries + 1)) e in omega (arith, one, c.loop-coord.invariant.calls, c.read_part.ensures.calls, add-mul 1 (length c.next.new.self) (c.args.retries + 1), one-mul (c.args.retries + 1));
+      once = let one = ap length e in omega (arith, one, c.loop-coord.invariant.once, c.read_part.ensures.once);
     }
 
 pub returns-clause-all : goal.returns-clause-all
@@ -82,3 +84,12 @@ returns-in-Err-clause-calls g c =
 
 pub returns-clause-calls : goal.returns-clause-calls
 returns-clause-calls g c = omega (arith, c.loop-coord.invariant.calls)
+
+pub returns-in-Err-clause-once : goal.returns-in-Err-clause-once
+returns-in-Err-clause-once g c =
+    let e : c.loop-coord.coord-iterator ≡ c.in-Some.coord ∷ c.next.new.self = c.in-Some.ensures.steps in
+    let one = ap length e in
+    omega (arith, one, c.loop-coord.invariant.once, c.read_part.ensures.once)
+
+pub returns-clause-once : goal.returns-clause-once
+returns-clause-once g c = omega (arith, c.loop-coord.invariant.once)

@@ -1,12 +1,13 @@
 use Rattle.std.proofs.Common.{◌+◌, ◌∷◌, ◌∙◌, length, ap, sym, arith}
 use Rattle.cu_name.specs.Keys.{record_key_of}
 use Rattle.cu_zarr.specs.Key.{metadata_key_of, zarray_key_of}
+use Rattle.cu_store.proofs.Once.{once_few}
 use Rattle.cu_command.proofs.SeenLemmas.{stepped}
 use Rattle.cu_op.specs.PlanView.{PlanView}
 use Rattle.cu_work.specs.Order.{plan_keys}
 use Rattle.cu_top.proofs.AskLemmas.{plan_asked, plan_free}
 use Rattle.cu_top.specs.Prepare.{asked_keys}
-use Rattle.cu_top.proofs.CallLimits.{asked_all}
+use Rattle.cu_top.proofs.CallLimits.{asked_all, asked_once}
 use Rattle.cu_top.proofs.ask.ask_plan.Goals as goal
 
 pub returns-clause-free : goal.returns-clause-free
@@ -36,3 +37,12 @@ returns-clause-calls g c = λ options same.
 
 pub returns-then-is_own_input-clause-calls : goal.returns-then-is_own_input-clause-calls
 returns-then-is_own_input-clause-calls g c = λ options same. let few = c.ask_own.ensures.step.calls.1 in omega (arith, few)
+
+pub returns-clause-once : goal.returns-clause-once
+returns-clause-once g c = λ options same.
+    asked_once options c.args.job.now c.args.plan.now (g.D.Depot.shown c.args.depot.now) (g.D.Depot.shown c.ask_keys.new.depot) same
+    (let once = c.ask_keys.ensures.once in omega (arith, once))
+
+pub returns-then-is_own_input-clause-once : goal.returns-then-is_own_input-clause-once
+returns-then-is_own_input-clause-once g c = λ options same.
+    once_few 2 (length (asked_keys options c.args.job.now)) (g.D.Depot.shown c.args.depot.now) (g.D.Depot.shown c.ask_own.new.depot) (omega arith) c.ask_own.ensures.once

@@ -56,16 +56,16 @@ pub returns-in-Plan : goal.returns-in-Plan
 returns-in-Plan g c = by_command _ _ _ _ _ (plan c.in-Plan.options) (rw c.in-Plan.is at c.in-Asked.ensures.answer.0) c.plan_command.ensures
 
 pub returns-in-Load : goal.returns-in-Load
-returns-in-Load g c = by_command _ _ _ _ _ (load c.in-Load.retries) (rw c.in-Load.is at c.in-Asked.ensures.answer.0) (record { tells = c.load.ensures.answer; calls = c.load.ensures.calls })
+returns-in-Load g c = by_command _ _ _ _ _ (load c.in-Load.retries) (rw c.in-Load.is at c.in-Asked.ensures.answer.0) (record { tells = c.load.ensures.answer; calls = c.load.ensures.calls; once = c.load.ensures.once })
 
 pub returns-in-Check : goal.returns-in-Check
-returns-in-Check g c = by_command _ _ _ _ _ (check c.in-Check.retries) (rw c.in-Check.is at c.in-Asked.ensures.answer.0) (record { tells = c.check.ensures.answer; calls = c.check.ensures.calls })
+returns-in-Check g c = by_command _ _ _ _ _ (check c.in-Check.retries) (rw c.in-Check.is at c.in-Asked.ensures.answer.0) (record { tells = c.check.ensures.answer; calls = c.check.ensures.calls; once = c.check.ensures.once })
 
 pub returns-in-Print : goal.returns-in-Print
 returns-in-Print g c =
     let asked = rw c.in-Print.is at c.in-Asked.ensures.answer.0 in
     let named = subst (λ (name : List ℕ). command_of (map string_bytes c.args.words.now) ≡ Ok (print name c.in-Print.retries)) (sym c.key_of_name.ensures.key) asked in
-    by_command _ _ _ _ _ (print c.key_of_name.result c.in-Print.retries) named (record { tells = c.print.ensures.answer; kept = refl; calls = c.print.ensures.calls })
+    by_command _ _ _ _ _ (print c.key_of_name.result c.in-Print.retries) named (record { tells = c.print.ensures.answer; kept = refl; calls = c.print.ensures.calls; once = c.print.ensures.once })
 
 pub returns-in-Demo : goal.returns-in-Demo
 returns-in-Demo g c =

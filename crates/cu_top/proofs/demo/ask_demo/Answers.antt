@@ -1,4 +1,5 @@
-use Rattle.std.proofs.Common.{◌≡◌, ◌+◌, ◌∙◌, subst, sym, ap, false, ℕ, List, arith}
+use Rattle.std.proofs.Common.{◌≡◌, ◌+◌, ◌∙◌, subst, sym, ap, false, ℕ, List, length, arith}
+use Rattle.cu_store.proofs.Once.{once_then, once_few}
 use Rattle.cu_command.proofs.SeenLemmas.{stepped, stepped_then}
 use Rattle.cu_demo.specs.Input.{demo_name}
 use Rattle.cu_demo.specs.declared.input.DemoInput.TheVariants.{Columns}
@@ -86,3 +87,24 @@ returns-in-Err-ask_plan-clause-calls g c = λ options same.
     let columns = c.ask_keys-2.ensures.step.calls.1 in
     let keys = c.ask_plan.ensures.calls options same in
     omega (arith, rows, columns, keys)
+
+pub returns-in-Err-clause-once : goal.returns-in-Err-clause-once
+returns-in-Err-clause-once g c = λ options same.
+    once_few 3 (6 + length (asked_keys options c.args.prepared.now.job)) (g.D.Depot.shown c.args.depot.now) (g.D.Depot.shown c.ask_keys.new.depot) (omega arith) c.ask_keys.ensures.once
+
+pub returns-in-Err-ask_keys-clause-once : goal.returns-in-Err-ask_keys-clause-once
+returns-in-Err-ask_keys-clause-once g c = λ options same.
+    once_few 6 (6 + length (asked_keys options c.args.prepared.now.job)) (g.D.Depot.shown c.args.depot.now) (g.D.Depot.shown c.ask_keys-2.new.depot) (omega arith)
+    (once_then 3 3 (g.D.Depot.shown c.args.depot.now) (g.D.Depot.shown c.ask_keys.new.depot) (g.D.Depot.shown c.ask_keys-2.new.depot) c.ask_keys.ensures.once c.ask_keys-2.ensures.once)
+
+pub returns-in-Ok-clause-once : goal.returns-in-Ok-clause-once
+returns-in-Ok-clause-once g c = λ options same.
+    once_then 6 (length (asked_keys options c.args.prepared.now.job)) (g.D.Depot.shown c.args.depot.now) (g.D.Depot.shown c.ask_keys-2.new.depot) (g.D.Depot.shown c.ask_plan.new.depot)
+    (once_then 3 3 (g.D.Depot.shown c.args.depot.now) (g.D.Depot.shown c.ask_keys.new.depot) (g.D.Depot.shown c.ask_keys-2.new.depot) c.ask_keys.ensures.once c.ask_keys-2.ensures.once)
+    (c.ask_plan.ensures.once options same)
+
+pub returns-in-Err-ask_plan-clause-once : goal.returns-in-Err-ask_plan-clause-once
+returns-in-Err-ask_plan-clause-once g c = λ options same.
+    once_then 6 (length (asked_keys options c.args.prepared.now.job)) (g.D.Depot.shown c.args.depot.now) (g.D.Depot.shown c.ask_keys-2.new.depot) (g.D.Depot.shown c.ask_plan.new.depot)
+    (once_then 3 3 (g.D.Depot.shown c.args.depot.now) (g.D.Depot.shown c.ask_keys.new.depot) (g.D.Depot.shown c.ask_keys-2.new.depot) c.ask_keys.ensures.once c.ask_keys-2.ensures.once)
+    (c.ask_plan.ensures.once options same)

@@ -1,11 +1,12 @@
 use Rattle.std.proofs.Common.{◌≡◌, ◌+◌, ◌*◌, ◌++◌, ℤ, All, None, length, refl, subst, sym, arith}
 use Rattle.cu_op.specs.PlanView.{PlanView}
+use Rattle.cu_store.specs.Steps.{OnceEach}
 use Rattle.cu_command.specs.Seen.{WithinCalls, seen, stream}
 use Rattle.cu_command.proofs.SeenLemmas.{stepped_none, stepped_then}
 use Rattle.cu_command.specs.declared.job.Job.{Job}
 use Rattle.cu_demo.specs.Expression.{IsDemoJob, demo_text}
 use Rattle.cu_work.specs.Order.{IsFree}
-use Rattle.cu_top.proofs.DemoCalls.{demo_unplanned, demo_asked, demo_unready, demo_unstored, demo_stopped, demo_told}
+use Rattle.cu_top.proofs.DemoCalls.{demo_starts, demo_unplanned, demo_asked, demo_unready, demo_unstored, demo_stopped, demo_told}
 use Rattle.cu_top.proofs.DemoFound.{found_of}
 use Rattle.cu_top.proofs.DemoLemmas.{MeantLaw, asked, refused_plan, run_to, stopped, told, unstored}
 use Rattle.cu_top.proofs.DemoWay.{Way, way_calm, way_cleared, way_found, way_keeps, way_whole}
@@ -125,11 +126,15 @@ returns-in-Ok-store_plan g c =
     entry shown left complete in
     let ended = c.in-Ok-store_plan.ensures.ended demo_text found (stream None 0) (stream None 0) (stream None 0) (stream None 0) (way_cleared options n job old mid start way) in
     let asked_calls = subst (λ (j : Job). WithinCalls ((6 + length (asked_keys options j)) * (options.retries + 1)) old mid) (sym same) (c.ask_demo.ensures.calls options c.in-Ok.ensures.plan) in
+    let asked_each = subst (λ (j : Job). OnceEach (6 + length (asked_keys options j)) old mid) (sym same) (c.ask_demo.ensures.once options c.in-Ok.ensures.plan) in
     let asked_count = c.ask_demo.ensures.step.step.count in
     let stored_count = c.store_inputs.ensures.step.step.count in
     let run_count = ended.0.step.step.count in
     record {
-      answer = told lack seen_by job found ran counts begun (way_calm options n job old mid start way) law ended c.tell_result.ensures.step (omega (arith, asked_count, stored_count, run_count)) (λ other s. way_keeps options n job old mid start way now other s) c.tell_result.result
+      answer = told lack seen_by job found ran counts begun (way_calm options n job old mid start way) law ended c.tell_result.ensures.step (omega (arith, asked_count, stored_count, run_count)) (λ other s. way_keeps options n job old mid start way now other s)
+          (demo_starts seen_by job way.accepted counts mid start ran asked_calls asked_each c.store_inputs.ensures.calls c.store_inputs.ensures.once c.in-Ok-store_plan.ensures.starts c.tell_result.ensures.calls
+          c.tell_result.ensures.once)
+          c.tell_result.result
           (subst (λ (p : PlanView). ResultTells (options.retries + 1) (λ (x : ℤ). result_line n x ++ report_line p counts) (seen before ran) (seen after now) c.tell_result.result) c.in-Ok-make_ready.ensures.ready.plan_is
           c.tell_result.ensures.answer);
       calls = demo_told seen_by job way.accepted mid asked_calls start c.store_inputs.ensures.calls ran c.in-Ok-store_plan.ensures.calls c.tell_result.ensures.calls

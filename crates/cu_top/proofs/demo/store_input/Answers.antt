@@ -1,5 +1,6 @@
 use Rattle.std.proofs.Common.{◌≡◌, ◌+◌, ◌*◌, IfErr, sym, subst}
 use Rattle.std.specs.Prelude.{OnOk}
+use Rattle.cu_store.specs.Steps.{OnceEach}
 use Rattle.cu_command.specs.Seen.{Stepped, WithinCalls}
 use Rattle.cu_load.specs.Load.{ArrayPut, IsArrayCalm, StoresGiven, chunks_in}
 use Rattle.cu_load.specs.LoadForm.{GivenArray, IsGivenArray, given_by}
@@ -49,3 +50,9 @@ returns-clause-calls g c =
     let form : LoadForm = record { name = c.demo_name.result; layout = c.demo_layout.result; elements = c.in-Ok.elements } in
     let same : given_by form ≡ demo_array c.args.input c.args.size = same_form form c.args.input c.args.size c.demo_name.ensures.name c.demo_layout.ensures c.in-Ok.ensures in
     subst (λ (a : GivenArray). WithinCalls ((chunks_in a + 1) * (c.args.retries + 1)) (g.D.Depot.shown c.args.depot.now) (g.D.Depot.shown c.store_array.new.depot)) same c.store_array.ensures.calls
+
+pub returns-clause-once : goal.returns-clause-once
+returns-clause-once g c =
+    let form : LoadForm = record { name = c.demo_name.result; layout = c.demo_layout.result; elements = c.in-Ok.elements } in
+    let same : given_by form ≡ demo_array c.args.input c.args.size = same_form form c.args.input c.args.size c.demo_name.ensures.name c.demo_layout.ensures c.in-Ok.ensures in
+    subst (λ (a : GivenArray). OnceEach (chunks_in a + 1) (g.D.Depot.shown c.args.depot.now) (g.D.Depot.shown c.store_array.new.depot)) same c.store_array.ensures.once

@@ -97,7 +97,7 @@ returns-clause-calls g c =
     let p = c.args.ready.now.plan in
     let old = g.D.Depot.shown c.args.depot.now in
     let new = g.D.Depot.shown c.run_plan-ended.new.depot in
-    let made : RunMakes c.run_options-how.result p c.args.held old new c.run_plan-ended.result = record { begun = c.run_plan-ended.ensures.begun; all = c.run_plan-ended.ensures.calls; starts = c.run_plan-ended.ensures.tries } in
+    let made : RunMakes c.run_options-how.result p c.args.held old new c.run_plan-ended.result = record { begun = c.run_plan-ended.ensures.begun; all = c.run_plan-ended.ensures.calls; starts = c.run_plan-ended.ensures.tries; once = c.run_plan-ended.ensures.once } in
     any_ok c.drive_answer.result _ (drive_all o job c.args.held old new c.run_options-how.result p c.run_plan-ended.result c.run_options-how.ensures c.requires.ready.plan_is made)
 
 pub returns-clause-stopped_calls : goal.returns-clause-stopped_calls
@@ -107,7 +107,7 @@ returns-clause-stopped_calls g c =
     let p = c.args.ready.now.plan in
     let old = g.D.Depot.shown c.args.depot.now in
     let new = g.D.Depot.shown c.run_plan-ended.new.depot in
-    let made : RunMakes c.run_options-how.result p c.args.held old new c.run_plan-ended.result = record { begun = c.run_plan-ended.ensures.begun; all = c.run_plan-ended.ensures.calls; starts = c.run_plan-ended.ensures.tries } in
+    let made : RunMakes c.run_options-how.result p c.args.held old new c.run_plan-ended.result = record { begun = c.run_plan-ended.ensures.begun; all = c.run_plan-ended.ensures.calls; starts = c.run_plan-ended.ensures.tries; once = c.run_plan-ended.ensures.once } in
     drive_stopped o job c.args.held old new c.run_options-how.result p _ c.run_plan-ended.result c.drive_answer.result c.run_options-how.ensures c.requires.ready.plan_is c.drive_answer.ensures made
 
 pub returns-clause-starts : goal.returns-clause-starts
@@ -117,5 +117,5 @@ returns-clause-starts g c =
     let p = c.args.ready.now.plan in
     let old = g.D.Depot.shown c.args.depot.now in
     let new = g.D.Depot.shown c.run_plan-ended.new.depot in
-    let made : RunMakes c.run_options-how.result p c.args.held old new c.run_plan-ended.result = record { begun = c.run_plan-ended.ensures.begun; all = c.run_plan-ended.ensures.calls; starts = c.run_plan-ended.ensures.tries } in
+    let made : RunMakes c.run_options-how.result p c.args.held old new c.run_plan-ended.result = record { begun = c.run_plan-ended.ensures.begun; all = c.run_plan-ended.ensures.calls; starts = c.run_plan-ended.ensures.tries; once = c.run_plan-ended.ensures.once } in
     drive_starts o job c.args.held old new c.run_options-how.result p _ c.run_plan-ended.result c.drive_answer.result c.run_options-how.ensures c.requires.ready.plan_is c.drive_answer.ensures made

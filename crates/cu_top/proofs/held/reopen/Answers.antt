@@ -1,4 +1,5 @@
-use Rattle.std.proofs.Common.{rules, ◌∙◌, inl, sym, subst, arith}
+use Rattle.std.proofs.Common.{rules, ◌+◌, ◌∙◌, inl, sym, subst, arith}
+use Rattle.cu_store.proofs.Once.{once_then, once_few}
 use Rattle.cu_command.proofs.SeenLemmas.{stepped}
 use Rattle.cu_command.specs.Job.{IsJob}
 use Rattle.cu_command.specs.declared.job.Job.{Job}
@@ -7,6 +8,7 @@ use Rattle.cu_top.specs.Prepare.{HasPlan}
 use Rattle.cu_top.specs.Run.{scene, case}
 use Rattle.cu_top.proofs.CallLimits.{unfound_within}
 use Rattle.cu_top.specs.Calls.{ReopenWithin}
+use Rattle.cu_top.specs.Limits.{plan_calls}
 use Rattle.cu_top.specs.declared.held.RecordFault.TheVariants as record_fault
 use Rattle.cu_top.proofs.held.reopen.Goals as goal
 
@@ -75,3 +77,23 @@ returns-then-is_own_input-clause-refused_calls g c = λ source next sink after.
     let first = c.plan_job.ensures.calls in
     let last = c.ask_record.ensures.step.calls.1 in
     unfound_within run job accepted planned c.text_keys-key.result.«record» record_fault.Absent (omega (arith, first, last))
+
+pub returns-in-Err-clause-once : goal.returns-in-Err-clause-once
+returns-in-Err-clause-once g c =
+    once_few (plan_calls 1 c.args.text.now) (plan_calls 1 c.args.text.now + 1) (g.D.Depot.shown c.args.depot.now) (g.D.Depot.shown c.plan_job.new.depot) (omega arith) c.plan_job.ensures.once
+
+pub returns-in_default-clause-once : goal.returns-in_default-clause-once
+returns-in_default-clause-once g c =
+    once_few (plan_calls 1 c.args.text.now) (plan_calls 1 c.args.text.now + 1) (g.D.Depot.shown c.args.depot.now) (g.D.Depot.shown c.plan_job.new.depot) (omega arith) c.plan_job.ensures.once
+
+pub returns-in-Err-ask_record-clause-once : goal.returns-in-Err-ask_record-clause-once
+returns-in-Err-ask_record-clause-once g c =
+    once_then (plan_calls 1 c.args.text.now) 1 (g.D.Depot.shown c.args.depot.now) (g.D.Depot.shown c.plan_job.new.depot) (g.D.Depot.shown c.ask_record.new.depot) c.plan_job.ensures.once c.ask_record.ensures.once
+
+pub returns-then-is_own_input-clause-once : goal.returns-then-is_own_input-clause-once
+returns-then-is_own_input-clause-once g c =
+    once_then (plan_calls 1 c.args.text.now) 1 (g.D.Depot.shown c.args.depot.now) (g.D.Depot.shown c.plan_job.new.depot) (g.D.Depot.shown c.ask_record.new.depot) c.plan_job.ensures.once c.ask_record.ensures.once
+
+pub returns-clause-once : goal.returns-clause-once
+returns-clause-once g c =
+    once_then (plan_calls 1 c.args.text.now) 1 (g.D.Depot.shown c.args.depot.now) (g.D.Depot.shown c.plan_job.new.depot) (g.D.Depot.shown c.ask_record.new.depot) c.plan_job.ensures.once c.ask_record.ensures.once

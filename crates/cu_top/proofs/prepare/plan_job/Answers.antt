@@ -39,3 +39,12 @@ returns-in-Err-plan-clause-calls g c = c.read_job.ensures.step.calls.1
 
 pub returns-in-Ok-plan-clause-calls : goal.returns-in-Ok-plan-clause-calls
 returns-in-Ok-plan-clause-calls g c = c.read_job.ensures.step.calls.1
+
+pub returns-in-Err-clause-once : goal.returns-in-Err-clause-once
+returns-in-Err-clause-once g c = c.read_job.ensures.once
+
+pub returns-in-Err-plan-clause-once : goal.returns-in-Err-plan-clause-once
+returns-in-Err-plan-clause-once g c = c.read_job.ensures.once
+
+pub returns-in-Ok-plan-clause-once : goal.returns-in-Ok-plan-clause-once
+returns-in-Ok-plan-clause-once g c = c.read_job.ensures.once

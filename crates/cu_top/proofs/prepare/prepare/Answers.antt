@@ -1,5 +1,6 @@
-use Rattle.std.proofs.Common.{inl, subst, sym, arith}
+use Rattle.std.proofs.Common.{◌+◌, inl, length, subst, sym, arith}
 use Rattle.cu_command.specs.declared.status.Status.{Status}
+use Rattle.cu_store.proofs.Once.{once_then}
 use Rattle.cu_command.proofs.SeenLemmas.{stepped_then}
 use Rattle.cu_top.proofs.BeginLemmas.{ask_unbegun, begin_asked_within, refused_begins}
 use Rattle.cu_top.proofs.PlannedLemmas.{refused_ran}
@@ -9,6 +10,7 @@ use Rattle.cu_top.specs.Run.{scene, case, Ran}
 use Rattle.cu_top.proofs.CallLimits.{asked_within}
 use Rattle.cu_top.specs.Begin.{BeginWithin, WasBegun}
 use Rattle.cu_top.specs.Calls.{RunWithin}
+use Rattle.cu_top.specs.Limits.{plan_calls}
 use Rattle.cu_top.proofs.prepare.prepare.Goals as goal
 
 pub returns-in-Err-clause-refused : goal.returns-in-Err-clause-refused
@@ -73,3 +75,8 @@ returns-in-Err-ask_plan-clause-unbegun_calls g c = λ source next sink after.
     let asked = c.ask_plan.ensures.calls c.args.options.now c.in-Ok.ensures.plan in
     subst (BeginWithin run) (sym c.answer_of.ensures)
     (begin_asked_within run c.in-Ok.prepared.job c.in-Ok.ensures.job c.in-Ok.ensures.planned c.in-Err-ask_plan.fault (omega (arith, planned, asked)))
+
+pub returns-in-Ok-ask_plan-clause-once : goal.returns-in-Ok-ask_plan-clause-once
+returns-in-Ok-ask_plan-clause-once g c =
+    once_then (plan_calls 1 c.args.text.now) (length (asked_keys c.args.options.now c.in-Ok.prepared.job)) (g.D.Depot.shown c.args.depot.now) (g.D.Depot.shown c.plan_job.new.depot)
+    (g.D.Depot.shown c.ask_plan.new.depot) c.plan_job.ensures.once (c.ask_plan.ensures.once c.args.options.now c.in-Ok.ensures.plan)

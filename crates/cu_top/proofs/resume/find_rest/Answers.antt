@@ -1,4 +1,5 @@
-use Rattle.std.proofs.Common.{rules, ◌∙◌, ◌+◌, ap, sym, subst, List, Bool, length}
+use Rattle.std.proofs.Common.{rules, arith, ◌∙◌, ◌+◌, ap, sym, subst, List, Bool, length}
+use Rattle.cu_store.proofs.Once.{once_then, once_few}
 use Rattle.cu_command.proofs.SeenLemmas.{stepped, stepped_then}
 use Rattle.cu_command.specs.declared.status.Status.{Status}
 use Rattle.cu_op.specs.PlanView.{PlanView}
@@ -64,3 +65,22 @@ returns-in-Ok-make-clause-step g c = stepped_then (stepped c.ask_key.ensures.ste
 
 pub returns-clause-step : goal.returns-clause-step
 returns-clause-step g c = stepped_then (stepped c.ask_key.ensures.step) (stepped c.find_done.ensures.step)
+
+pub returns-in-Err-clause-once : goal.returns-in-Err-clause-once
+returns-in-Err-clause-once g c =
+    once_few 1 (1 + length (plan_keys c.args.ready.now.plan (length c.args.ready.now.plan.ops))) (g.D.Depot.shown c.args.depot.now) (g.D.Depot.shown c.ask_key.new.depot) (omega arith) c.ask_key.ensures.once
+
+pub returns-in-Err-find_done-clause-once : goal.returns-in-Err-find_done-clause-once
+returns-in-Err-find_done-clause-once g c =
+    once_then 1 (length (plan_keys c.args.ready.now.plan (length c.args.ready.now.plan.ops))) (g.D.Depot.shown c.args.depot.now) (g.D.Depot.shown c.ask_key.new.depot) (g.D.Depot.shown c.find_done.new.depot)
+    c.ask_key.ensures.once c.find_done.ensures.once
+
+pub returns-in-Ok-make-clause-once : goal.returns-in-Ok-make-clause-once
+returns-in-Ok-make-clause-once g c =
+    once_then 1 (length (plan_keys c.args.ready.now.plan (length c.args.ready.now.plan.ops))) (g.D.Depot.shown c.args.depot.now) (g.D.Depot.shown c.ask_key.new.depot) (g.D.Depot.shown c.find_done.new.depot)
+    c.ask_key.ensures.once c.find_done.ensures.once
+
+pub returns-clause-once : goal.returns-clause-once
+returns-clause-once g c =
+    once_then 1 (length (plan_keys c.args.ready.now.plan (length c.args.ready.now.plan.ops))) (g.D.Depot.shown c.args.depot.now) (g.D.Depot.shown c.ask_key.new.depot) (g.D.Depot.shown c.find_done.new.depot)
+    c.ask_key.ensures.once c.find_done.ensures.once

@@ -156,7 +156,7 @@ returns g c = record {
       c.requires.ready.plan_is c.find_rest.ensures.calls c.in-Ok.rest.held c.in-Ok.ensures.has Done) c.drive_plan.ensures.calls;
   starts = if_ok c.drive_plan.result
       (λ counts. rest_starts c.args.options.now c.args.ready.now.job c.args.ready.now.plan counts (g.D.Depot.shown c.args.depot.now) (g.D.Depot.shown c.find_rest.new.depot)
-      (g.D.Depot.shown c.drive_plan.new.depot) c.requires.ready.plan_is c.find_rest.ensures.calls c.in-Ok.rest.held c.in-Ok.ensures.has) c.drive_plan.ensures.starts;
+      (g.D.Depot.shown c.drive_plan.new.depot) c.requires.ready.plan_is c.find_rest.ensures.calls c.find_rest.ensures.once c.in-Ok.rest.held c.in-Ok.ensures.has) c.drive_plan.ensures.starts;
   stopped_calls = if_err c.drive_plan.result
       (rest_driven c.args.options.now c.args.ready.now.job c.args.ready.now.plan (g.D.Depot.shown c.args.depot.now) (g.D.Depot.shown c.find_rest.new.depot) (g.D.Depot.shown c.drive_plan.new.depot)
       c.requires.ready.plan_is c.find_rest.ensures.calls c.in-Ok.rest.held c.in-Ok.ensures.has) c.drive_plan.ensures.stopped_calls;

@@ -3,7 +3,7 @@ use Rattle.cu_command.specs.Seen.{stream}
 use Rattle.cu_command.specs.Streams.{WroteFront}
 use Rattle.cu_op.specs.PlanView.{PlanView}
 use Rattle.cu_top.proofs.ReopenLemmas.{not_reopened, resume_done, resume_unreported}
-use Rattle.cu_top.specs.Limits.{plan_calls, resume_limits}
+use Rattle.cu_top.specs.Limits.{plan_calls, resume_keys, resume_limits}
 use Rattle.cu_top.specs.Prepare.{job_plan, keys_of}
 use Rattle.cu_top.specs.Report.{report_line}
 use Rattle.cu_top.specs.Run.{scene, case}
@@ -32,7 +32,9 @@ returns-in-Ok-report-clause-answer g c = λ source next.
     (c.in-Ok-go_on.ensures.ended c.args.text.now start source next out after c.in-Ok.ensures.found c.requires.left)
     (starts_then (plan_calls (c.args.options.now.retries + 1) c.args.text.now + (c.args.options.now.retries + 1))
     ((length (keys_of c.args.options.now c.in-Ok.ready.job) + 1) * (c.args.options.now.retries + 1)) (resume_limits c.args.options.now c.args.text.now c.in-Ok.ready.job).begun
-    (job_plan c.args.options.now c.in-Ok.ready.job) counts start (g.D.Depot.shown c.reopen.new.depot) now c.reopen.ensures.calls (omega arith) c.in-Ok-go_on.ensures.starts)
+    (plan_calls 1 c.args.text.now + 1) (length (keys_of c.args.options.now c.in-Ok.ready.job) + 1) (resume_keys c.args.options.now c.args.text.now c.in-Ok.ready.job)
+    (job_plan c.args.options.now c.in-Ok.ready.job) counts start (g.D.Depot.shown c.reopen.new.depot) now c.reopen.ensures.calls (omega arith) c.reopen.ensures.once (omega arith)
+    c.in-Ok-go_on.ensures.starts)
     (subst (λ (p : PlanView). WroteFront out.told after.told (report_line p counts) (length (report_line p counts))) c.in-Ok.ensures.ready.plan_is c.in-Ok-report.ensures.all)
 
 pub returns-in-Ok-go_on-clause-answer : goal.returns-in-Ok-go_on-clause-answer
@@ -46,7 +48,9 @@ returns-in-Ok-go_on-clause-answer g c = λ source next.
     (c.in-Ok-go_on.ensures.ended c.args.text.now start source next out after c.in-Ok.ensures.found c.requires.left)
     (starts_then (plan_calls (c.args.options.now.retries + 1) c.args.text.now + (c.args.options.now.retries + 1))
     ((length (keys_of c.args.options.now c.in-Ok.ready.job) + 1) * (c.args.options.now.retries + 1)) (resume_limits c.args.options.now c.args.text.now c.in-Ok.ready.job).begun
-    (job_plan c.args.options.now c.in-Ok.ready.job) counts start (g.D.Depot.shown c.reopen.new.depot) now c.reopen.ensures.calls (omega arith) c.in-Ok-go_on.ensures.starts) c.in-Err-report.ensures.cause
+    (plan_calls 1 c.args.text.now + 1) (length (keys_of c.args.options.now c.in-Ok.ready.job) + 1) (resume_keys c.args.options.now c.args.text.now c.in-Ok.ready.job)
+    (job_plan c.args.options.now c.in-Ok.ready.job) counts start (g.D.Depot.shown c.reopen.new.depot) now c.reopen.ensures.calls (omega arith) c.reopen.ensures.once (omega arith)
+    c.in-Ok-go_on.ensures.starts) c.in-Err-report.ensures.cause
     (subst (λ (p : PlanView). (n : ℕ) × (n ≤ length (report_line p counts)) × WroteFront out.told after.told (report_line p counts) n) c.in-Ok.ensures.ready.plan_is
     c.in-Err-report.ensures.front)
 

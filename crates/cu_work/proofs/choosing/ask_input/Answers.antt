@@ -12,7 +12,7 @@ pub returns-in-Ok-has_tries-clause-asked : goal.returns-in-Ok-has_tries-clause-a
 returns-in-Ok-has_tries-clause-asked g c = λ start own lacks a.
     found_asked c.args.plan.now c.args.part.now (c.args.retries + 1) c.args.task c.requires.within start own lacks (contains_text c.args.known.now) (g.D.Depot.shown c.args.depot.now) a c.args.key.now
     c.requires.made (ap (contains_text c.args.known.now) (sym c.text.ensures.text) ∙ sym c.contains.ensures ∙ c.if-contains.false) (contains_text c.add_key.new.known) c.in-Ok.ensures
-    (g.D.Depot.shown c.has_tries.new.depot) c.has_tries.ensures.step c.in-Ok-has_tries.held c.in-Ok-has_tries.ensures.answer
+    (g.D.Depot.shown c.has_tries.new.depot) c.has_tries.ensures.step c.has_tries.ensures.once c.in-Ok-has_tries.held c.in-Ok-has_tries.ensures.answer
 
 pub returns-in-Err-Failed-clause-asked : goal.returns-in-Err-Failed-clause-asked
 returns-in-Err-Failed-clause-asked g c = λ start own lacks a. (

@@ -2,13 +2,21 @@ use Rattle.std.proofs.Common.{◌+◌, ◌∙◌, length, ap, sym, subst}
 use Rattle.cu_work.specs.Order.{plan_keys}
 use Rattle.cu_work.specs.Search.{NamesStored}
 use Rattle.cu_work.specs.World.{IsFound}
-use Rattle.cu_work.proofs.Searching.{fault_calls}
-use Rattle.cu_work.proofs.SearchedTasks.{found_done, named_stored, written_back}
+use Rattle.cu_work.proofs.Searching.{fault_calls, fault_once}
+use Rattle.cu_work.proofs.SearchedTasks.{searched_once, found_done, named_stored, written_back}
 use Rattle.cu_work.proofs.find.find_done.Goals as goal
 
 pub returns-in-Err-clause-step : goal.returns-in-Err-clause-step
 returns-in-Err-clause-step g c =
     fault_calls (c.args.retries + 1) (plan_keys c.args.plan.now (length c.args.plan.now.ops)) (g.D.Depot.shown c.args.depot.now) (g.D.Depot.shown c.find_tasks.new.depot) c.in-Err.fault c.in-Err.ensures.cause
+
+pub returns-in-Err-clause-once : goal.returns-in-Err-clause-once
+returns-in-Err-clause-once g c =
+    fault_once (c.args.retries + 1) (plan_keys c.args.plan.now (length c.args.plan.now.ops)) (g.D.Depot.shown c.args.depot.now) (g.D.Depot.shown c.find_tasks.new.depot) c.in-Err.fault c.in-Err.ensures.cause
+
+pub returns-in-Ok-find_tasks-clause-once : goal.returns-in-Ok-find_tasks-clause-once
+returns-in-Ok-find_tasks-clause-once g c =
+    searched_once (c.args.retries + 1) c.args.plan.now (g.D.Depot.shown c.args.depot.now) (g.D.Depot.shown c.find_tasks.new.depot) c.find_tasks.new.done c.in-Ok-find_tasks.ensures.searched
 
 pub returns-in-Ok-find_tasks-clause-found : goal.returns-in-Ok-find_tasks-clause-found
 returns-in-Ok-find_tasks-clause-found g c = λ held told.

@@ -31,7 +31,7 @@ returns-in-Err-clause-cause g c =
     let e = c.tasks-task-end.ensures.tasks in
     let t = c.loop-task-test.true in
     operation_ended (c.args.retries + 1) c.args.plan.now (g.D.Depot.shown c.args.depot.now) (g.D.Depot.shown c.find_task.new.depot) c.in-Err.fault c.args.op c.loop-task.task
-    (g.D.Depot.shown c.loop-task.depot) (omega (arith, e, t)) c.loop-task.invariant.step c.in-Err.ensures.cause
+    (g.D.Depot.shown c.loop-task.depot) (omega (arith, e, t)) c.loop-task.invariant.step c.loop-task.invariant.once c.in-Err.ensures.cause
 
 pub returns-clause-searched : goal.returns-clause-searched
 returns-clause-searched g c = λ start so_far.

@@ -1,6 +1,6 @@
 use Rattle.std.proofs.Common.{◌≡◌, ◌∙◌, ◌+◌, ℕ, length, refl, ap, subst, arith}
 use Rattle.cu_work.specs.Search.{IsSearched}
-use Rattle.cu_work.proofs.SearchedTasks.{plan_ended, operations_step, searched_nothing}
+use Rattle.cu_work.proofs.SearchedTasks.{plan_ended, operations_step, operations_once, searched_nothing}
 use Rattle.cu_table.proofs.Numbers.{first_more}
 use Rattle.cu_work.proofs.find.find_tasks.Goals as goal
 
@@ -11,6 +11,7 @@ returns-in-Err-clause-cause g c =
     plan_ended (c.args.retries + 1) c.args.plan.now (g.D.Depot.shown c.args.depot.now) (g.D.Depot.shown c.find_operation.new.depot) c.in-Err.fault c.loop-op.op (g.D.Depot.shown c.loop-op.depot)
     (omega (arith, e, t))
     (operations_step (c.args.retries + 1) c.args.plan.now (g.D.Depot.shown c.args.depot.now) c.loop-op.op (g.D.Depot.shown c.loop-op.depot) c.loop-op.done c.loop-op.invariant.1)
+    (operations_once (c.args.retries + 1) c.args.plan.now (g.D.Depot.shown c.args.depot.now) c.loop-op.op (g.D.Depot.shown c.loop-op.depot) c.loop-op.done c.loop-op.invariant.1)
     c.in-Err.ensures.cause
 
 pub find_operation-requires : goal.find_operation-requires

@@ -1,4 +1,6 @@
 use Rattle.std.proofs.Common.{◌+◌, ◌*◌, ◌≤◌, ℕ, inr, sym, ap, subst, arith}
+use Rattle.cu_store.specs.Steps.{Shown, OnceEach}
+use Rattle.cu_store.proofs.Once.{once_then, once_few}
 use Rattle.cu_store.proofs.Steps.{steps_wider}
 use Rattle.cu_work.specs.Calls.{missing_texts}
 use Rattle.cu_work.specs.Starts.{most_calls}
@@ -13,6 +15,10 @@ more_tries n a m r k few = omega (arith, few)
 
 both_tries : (a mid n m r k : ℕ) → mid ≤ a + m * r → n ≤ mid + r + k → n ≤ a + (m + 1) * r + k
 both_tries a mid n m r k first then = omega (arith, first, then)
+
+-- the texts, sharing, and so many calls of tasks
+once_more : (j k : ℕ) (a b c : Shown) → OnceEach j a b → OnceEach (1 + k) b c → OnceEach (j + 1 + k) a c
+once_more j k a b c first then = once_few (j + (1 + k)) (j + 1 + k) a c (omega arith) (once_then j (1 + k) a b c first then)
 
 pub returns-in-Err-clause-record : goal.returns-in-Err-clause-record
 returns-in-Err-clause-record g c = λ env left.
@@ -87,6 +93,27 @@ returns-in-Err-run_tasks-clause-refused g c =
 pub returns-in-Ok-clause-tries : goal.returns-in-Ok-clause-tries
 returns-in-Ok-clause-tries g c = λ m most.
     both_tries _ _ _ (missing_texts c.args.held) (c.args.options.now.retries + 1) _ c.put_texts.ensures.calls (c.in-Ok.ensures.tries m most)
+
+pub returns-in-Ok-clause-once : goal.returns-in-Ok-clause-once
+returns-in-Ok-clause-once g c = λ m most.
+    once_more (missing_texts c.args.held) _ (g.D.Depot.shown c.args.depot.now) (g.D.Depot.shown c.put_texts.new.depot) (g.D.Depot.shown c.run_tasks.new.depot) c.put_texts.ensures.once (c.in-Ok.ensures.once m most)
+
+pub returns-in-Ok-clause-begun_once : goal.returns-in-Ok-clause-begun_once
+returns-in-Ok-clause-begun_once g c = tt
+
+pub returns-in-Err-clause-once : goal.returns-in-Err-clause-once
+returns-in-Err-clause-once g c = λ m most. tt
+
+pub returns-in-Err-clause-begun_once : goal.returns-in-Err-clause-begun_once
+returns-in-Err-clause-begun_once g c =
+    once_few (missing_texts c.args.held) (missing_texts c.args.held + 1) (g.D.Depot.shown c.args.depot.now) (g.D.Depot.shown c.put_texts.new.depot) (omega arith) c.put_texts.ensures.once
+
+pub returns-in-Err-run_tasks-clause-once : goal.returns-in-Err-run_tasks-clause-once
+returns-in-Err-run_tasks-clause-once g c = λ m most. tt
+
+pub returns-in-Err-run_tasks-clause-begun_once : goal.returns-in-Err-run_tasks-clause-begun_once
+returns-in-Err-run_tasks-clause-begun_once g c =
+    once_then (missing_texts c.args.held) 1 (g.D.Depot.shown c.args.depot.now) (g.D.Depot.shown c.put_texts.new.depot) (g.D.Depot.shown c.run_tasks.new.depot) c.put_texts.ensures.once c.in-Err-run_tasks.ensures.begun_once
 
 pub returns-in-Ok-clause-workers : goal.returns-in-Ok-clause-workers
 returns-in-Ok-clause-workers g c = c.in-Ok.ensures.workers

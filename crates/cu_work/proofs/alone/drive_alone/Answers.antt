@@ -1,4 +1,4 @@
-use Rattle.std.proofs.Common.{◌≡◌, ◌≤◌, ◌+◌, ◌*◌, Bool, length, sym, ◌∙◌, subst}
+use Rattle.std.proofs.Common.{◌≡◌, ◌≤◌, ◌+◌, ◌*◌, Bool, length, refl, sym, ◌∙◌, subst}
 use Rattle.cu_store.specs.Yard.{shown_by}
 use Rattle.cu_op.specs.PlanView.{PlanView}
 use Rattle.cu_task.specs.Serving.{ServesPlan, HasSeenInputs}
@@ -8,11 +8,12 @@ use Rattle.cu_table.specs.Table.{TableView, Goes, start_event, end_of, report_ki
 use Rattle.cu_work.specs.Alone.{HasRun, HasSeenDone, Tried}
 use Rattle.cu_work.proofs.AloneTurns.{ran_first, nobody_runs, turn_task, turn_inputs, turn_runs, turn_on_time, turn_done, fewer_left, finished_decided, halted_decided}
 use Rattle.cu_work.proofs.AloneTries.{tried_first, tried_more, tried_calls, tried_workers}
-use Rattle.cu_work.proofs.alone.take_turns.Goals as goal
+use Rattle.cu_work.proofs.alone.drive_alone.Goals as goal
 
 pub loop-op-init : goal.loop-op-init
 loop-op-init g c = record {
   own = c.requires.own;
+  rooms = refl;
   ran = ran_first (g.Y.Yard.serves c.args.yard.now) c.args.table.now (g.Y.Yard.knows c.args.pass.now) c.history-history.ensures.legal c.requires.fresh
       (subst (λ (p : PlanView). HasSeenDone p c.args.table.now.state (g.Y.Yard.knows c.args.pass.now).seen) (sym c.requires.plan) c.requires.seen);
   tried = tried_first c.args.table.now (g.Y.Yard.knows c.args.pass.now) c.requires.fresh;
@@ -23,6 +24,9 @@ claim-requires g c = nobody_runs c.loop-op.table.state 0 c.loop-op.invariant.ran
 
 pub try_in_yard-ended-requires-clause-own : goal.try_in_yard-ended-requires-clause-own
 try_in_yard-ended-requires-clause-own g c κs within = c.loop-op.invariant.own
+
+pub try_in_yard-ended-requires-clause-rooms : goal.try_in_yard-ended-requires-clause-rooms
+try_in_yard-ended-requires-clause-rooms g c κs within = c.loop-op.invariant.rooms ∙ c.requires.rooms
 
 pub try_in_yard-ended-requires-clause-inputs : goal.try_in_yard-ended-requires-clause-inputs
 try_in_yard-ended-requires-clause-inputs g c κs within =
@@ -74,6 +78,7 @@ loop-op-preserved g c =
     let late = turn_on_time yard first t u v old (k, l) c.in-Run.op c.in-Run.task c.history-history.ensures.sound serves c.loop-op.invariant.ran c.in-Run.ensures.answer.0 in
     record {
       own = c.try_in_yard-ended.ensures.own;
+      rooms = c.try_in_yard-ended.ensures.rooms ∙ c.loop-op.invariant.rooms;
       ran = turn_done yard first t u v old (k, l) c.in-Run.op c.in-Run.task c.history-history.ensures.sound serves c.loop-op.invariant.ran c.in-Run.ensures.answer.0
           c.report.ensures.legal r
           (subst (λ (p : PlanView). Tried p c.in-Run.op c.in-Run.task yard (k, l) r) (sym c.requires.plan) c.try_in_yard-ended.ensures.tried)
