@@ -202,7 +202,8 @@ ComparesWithin tries text entry now = WithinCalls (metadata_keys text * tries) e
 abbrev pub ChecksWithin : ℕ → Stream → Stream → Shown → Shown → Type 0
 ChecksWithin tries src next entry now = WithinCalls 0 entry now ⊎ ReadsText src next (λ text. ComparesWithin tries text entry now)
 
--- The same keys, each called for once, and again only where a call failed.
+-- One call for each of these keys at most, for a chunk as often as nodes read its array, and beyond these
+-- no more than failed.
 abbrev pub ComparesOnce : List ℕ → Shown → Shown → Type 0
 ComparesOnce text entry now = OnceEach (metadata_keys text) entry now
     ⊎ OfTyped text entry (λ job output. OnceEach (metadata_keys text + chunks_of_all (compared_arrays job output)) entry now)

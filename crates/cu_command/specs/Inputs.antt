@@ -102,7 +102,8 @@ IsMetadataStatus (status.BadMeta name code) = Unit {0}
 IsMetadataStatus status.NoMemory = Unit {0}
 IsMetadataStatus other = ⊥
 
--- so far these inputs were read, each by at most so many calls, and again only where one failed: both keys of its metadata once
+-- so far these inputs were read, each by at most so many calls; beside two calls an input, for both keys
+-- of its metadata, there were no more than failed
 pub record HasRead (tries : ℕ) (entry now : Shown) (inputs : List InputInfo) : Type 0 where
   pub read : All (IsReadAt entry) inputs
   pub step : Steps NoChange 0 (tries * length inputs) entry now

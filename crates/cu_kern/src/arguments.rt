@@ -34,8 +34,9 @@ pub(crate) fn literal_at(code: &[Instr], a: u32, t: Dtype) -> [u8; 8]
     }
 }
 
-/// A number as an element of the type, with zeros behind; another is wrapped to the type. With the type written out it is made in a
-/// register: read in one piece after it was written in two, it would hold a processor up.
+/// A number as an element of the type, with zeros behind; another is wrapped to the type. With the type
+/// written out it is made in a register: a processor waits for bytes that are read in one piece after
+/// they were written in two.
 #[inline(never)]
 fn spelled(t: Dtype, x: i128) -> [u8; 8]
     ensures { InRange t x → element_at Little t result 0 ≡ x }

@@ -169,7 +169,7 @@ abbrev pub LoadsWithin : ℕ → Option (List ℕ) → Option (List ℕ) → Sho
 LoadsWithin retries src next old new =
     WithinCalls 0 old new ⊎ ReadsArray src next (λ a. WithinCalls ((chunks_in a + 4) * (retries + 1)) old new)
 
--- The same keys, each called for once, and again only where a call failed.
+-- The same keys: one call for each at most, and beyond these no more than failed.
 abbrev pub LoadsOnce : Option (List ℕ) → Option (List ℕ) → Shown → Shown → Type 0
 LoadsOnce src next old new = WithinCalls 0 old new ⊎ ReadsArray src next (λ a. OnceEach (chunks_in a + 4) old new)
 

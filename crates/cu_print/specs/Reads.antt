@@ -40,7 +40,8 @@ IsBandStart zero (n ∷ ns) (c ∷ cs) p = (i : ℕ) × (p ≡ i * c * product n
 IsBandStart (suc a) (n ∷ ns) (c ∷ cs) p = IsBandStart a ns cs (p % product ns)
 IsBandStart a shape chunk p = Unit {0}
 
--- a band was read: each chunk that it meets was called for once, and again only where a call failed, and the next one begins behind it
+-- a band was read, and the next one begins behind it; beside one call for each chunk that it meets there
+-- were no more than failed
 pub record IsBandRead (tries axis : ℕ) (g : RegularGrid) (start : ℕ) (old new : Shown) (len : ℕ) : Type 0 where
   pub next : start + len < product g.shape → IsBandStart axis g.shape g.chunk (start + len)
   pub met : ℕ

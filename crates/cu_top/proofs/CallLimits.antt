@@ -2,7 +2,8 @@
 use Rattle.std.proofs.Common.{◌≡◌, inl, inr, ℕ, ◌+◌, ◌*◌, ◌≤◌, [], ◌∷◌, List, Result, Ok, Err, length, length-append, ap, subst, arith}
 use Rattle.std.specs.Prelude.{IfOk}
 use Rattle.cu_store.specs.Steps.{Shown, OnceEach}
-use Rattle.cu_store.proofs.Once.{once_then, once_few}
+use Rattle.cu_store.proofs.Once.{once_few}
+use Rattle.cu_history.specs.declared.entry.Entry.{Entry}
 use Rattle.cu_op.specs.PlanView.{PlanView}
 use Rattle.cu_command.specs.Seen.{WithinCalls}
 use Rattle.cu_command.specs.declared.job.Job.{Job}
@@ -12,6 +13,7 @@ use Rattle.cu_lower.specs.declared.options.Options.{Options}
 use Rattle.cu_work.specs.Calls.{missing_texts}
 use Rattle.cu_work.specs.Order.{plan_keys}
 use Rattle.cu_work.specs.Removal.{removed_keys}
+use Rattle.cu_work.specs.Starts.{WithinHistory}
 use Rattle.cu_work.specs.declared.removal.RemoveFault.{RemoveFault}
 use Rattle.cu_work.specs.declared.removal.RemoveFault.TheVariants as remove
 use Rattle.cu_work.specs.declared.run.HeldTexts.{HeldTexts}
@@ -49,32 +51,28 @@ begun_then k begun all more most a b c first small large NoMemory calls = omega 
 begun_then k begun all more most a b c first small large status calls = absurd calls
 
 -- the same of the calls by starts
-pub starts_then : (k begun more j keys most : ℕ) (p : PlanView) (n : RunCounts) (a b c : Shown) → WithinCalls k a b → k + begun ≤ more → OnceEach j a b → j + keys ≤ most
-    → WithinStarts begun keys p n b c → WithinStarts more most p n a c
-starts_then k begun more j keys most p n a b c first small once few calls = λ m task. (
-  sum_calls k begun more (n.starts * m) a.calls b.calls c.calls first small (calls m task).0,
-  sum_once j keys most (n.starts * m) a b c few once (calls m task).1,
-)
+pub starts_then : (k begun more : ℕ) (p : PlanView) (n : RunCounts) (a b c : Shown) → WithinCalls k a b → k + begun ≤ more → WithinStarts begun p n b c
+    → WithinStarts more p n a c
+starts_then k begun more p n a b c first small calls = λ m task. sum_calls k begun more (n.starts * m) a.calls b.calls c.calls first small (calls m task)
   where
-    sum_once : (j keys most x : ℕ) (a b c : Shown) → j + keys ≤ most → OnceEach j a b → OnceEach (keys + x) b c → OnceEach (most + x) a c
-    sum_once j keys most x a b c few first rest = once_few (j + (keys + x)) (most + x) a c (omega (arith, few)) (once_then j (keys + x) a b c first rest)
-
     sum_calls : (k begun more x a b c : ℕ) → b ≤ a + k → k + begun ≤ more → c ≤ b + (begun + x) → c ≤ a + (more + x)
     sum_calls k begun more x a b c first small rest = omega (arith, first, small, rest)
 
 -- some calls came behind
-pub starts_before : (begun more k keys most j : ℕ) (p : PlanView) (n : RunCounts) (a b c : Shown) → WithinStarts begun keys p n a b → WithinCalls k b c → begun + k ≤ more → OnceEach j b c
-    → keys + j ≤ most → WithinStarts more most p n a c
-starts_before begun more k keys most j p n a b c calls last small once few = λ m task. (
-  sum_calls begun more k (n.starts * m) a.calls b.calls c.calls (calls m task).0 last small,
-  sum_once keys most j (n.starts * m) a b c few (calls m task).1 once,
-)
+pub starts_before : (begun more k : ℕ) (p : PlanView) (n : RunCounts) (a b c : Shown) → WithinStarts begun p n a b → WithinCalls k b c → begun + k ≤ more
+    → WithinStarts more p n a c
+starts_before begun more k p n a b c calls last small = λ m task. sum_calls begun more k (n.starts * m) a.calls b.calls c.calls (calls m task) last small
   where
     sum_calls : (begun more k x a b c : ℕ) → b ≤ a + (begun + x) → c ≤ b + k → begun + k ≤ more → c ≤ a + (more + x)
     sum_calls begun more k x a b c first last small = omega (arith, first, last, small)
 
-    sum_once : (keys most j x : ℕ) (a b c : Shown) → keys + j ≤ most → OnceEach (keys + x) a b → OnceEach j b c → OnceEach (most + x) a c
-    sum_once keys most j x a b c few first last = once_few ((keys + x) + j) (most + x) a c (omega (arith, few)) (once_then (keys + x) j a b c first last)
+-- the same of a history: some calls came behind
+pub once_behind : (j k : ℕ) (p : PlanView) (history : List Entry) (a b c : Shown) → WithinHistory j p history a b → OnceEach k b c → WithinHistory (j + k) p history a c
+once_behind j k p history a b c run last = omega (arith, run, last)
+
+-- more keys
+pub more_keys : (j k : ℕ) (p : PlanView) (history : List Entry) (a b : Shown) → j ≤ k → WithinHistory j p history a b → WithinHistory k p history a b
+more_keys j k p history a b few run = omega (arith, few, run)
 
 -- a command that came to its tasks
 pub begun_within : (most : CallLimits) (old new : Shown) (s : Status) → BegunWithin most.begun most.all old new s → CallsWithin most old new s
@@ -189,28 +187,22 @@ rest_driven o job p a b c same calls held has s driven = go held has driven
 
 -- the same by starts
 pub rest_starts : (o : Options) (job : Job) (p : PlanView) (n : RunCounts) (a b c : Shown) → p ≡ job_plan o job → WithinCalls ((1 + length (plan_keys p (length p.ops))) * (o.retries + 1)) a b
-    → OnceEach (1 + length (plan_keys p (length p.ops))) a b
-    → (held : HeldTexts) → HasRecord held → WithinStarts ((missing_texts held + 1) * (o.retries + 1)) (missing_texts held + 1) (job_plan o job) n b c
-    → WithinStarts ((length (keys_of o job) + 1) * (o.retries + 1)) (length (keys_of o job) + 1) (job_plan o job) n a c
-rest_starts o job p n a b c same calls once held has driven = go held has driven
+    → (held : HeldTexts) → HasRecord held → WithinStarts ((missing_texts held + 1) * (o.retries + 1)) (job_plan o job) n b c
+    → WithinStarts ((length (keys_of o job) + 1) * (o.retries + 1)) (job_plan o job) n a c
+rest_starts o job p n a b c same calls held has driven = go held has driven
   where
     asked : WithinCalls ((1 + length (plan_keys (job_plan o job) (length (job_plan o job).ops))) * (o.retries + 1)) a b
     asked = subst (λ (q : PlanView). WithinCalls ((1 + length (plan_keys q (length q.ops))) * (o.retries + 1)) a b) same calls
 
-    asked_each : OnceEach (1 + length (plan_keys (job_plan o job) (length (job_plan o job).ops))) a b
-    asked_each = subst (λ (q : PlanView). OnceEach (1 + length (plan_keys q (length q.ops))) a b) same once
-
-    go : (held : HeldTexts) → HasRecord held → WithinStarts ((missing_texts held + 1) * (o.retries + 1)) (missing_texts held + 1) (job_plan o job) n b c
-        → WithinStarts ((length (keys_of o job) + 1) * (o.retries + 1)) (length (keys_of o job) + 1) (job_plan o job) n a c
+    go : (held : HeldTexts) → HasRecord held → WithinStarts ((missing_texts held + 1) * (o.retries + 1)) (job_plan o job) n b c
+        → WithinStarts ((length (keys_of o job) + 1) * (o.retries + 1)) (job_plan o job) n a c
     go Neither has driven = absurd has
     go Record has driven =
         starts_then ((1 + length (plan_keys (job_plan o job) (length (job_plan o job).ops))) * (o.retries + 1)) ((1 + 1) * (o.retries + 1)) ((length (keys_of o job) + 1) * (o.retries + 1))
-        (1 + length (plan_keys (job_plan o job) (length (job_plan o job).ops))) (1 + 1) (length (keys_of o job) + 1)
-        (job_plan o job) n a b c asked (omega arith) asked_each (omega arith) driven
+        (job_plan o job) n a b c asked (omega arith) driven
     go Both has driven =
         starts_then ((1 + length (plan_keys (job_plan o job) (length (job_plan o job).ops))) * (o.retries + 1)) ((0 + 1) * (o.retries + 1)) ((length (keys_of o job) + 1) * (o.retries + 1))
-        (1 + length (plan_keys (job_plan o job) (length (job_plan o job).ops))) (0 + 1) (length (keys_of o job) + 1)
-        (job_plan o job) n a b c asked (omega arith) asked_each (omega arith) driven
+        (job_plan o job) n a b c asked (omega arith) driven
 
 module _ (c : RunCase) (job : Job) (accepted : IsAccepted c job) (planned : HasPlan c.options job) (mid : Shown) (first : WithinCalls (reopening c) c.old.depot mid) where
   pub resume_within : (s : Status) → GoneOnWithin c.options job mid c.new.depot s → ResumeWithin c s

@@ -1,7 +1,6 @@
 -- The calls of a demonstration, from those of its parts.
-use Rattle.std.proofs.Common.{◌≡◌, inl, inr, ℕ, ◌+◌, ◌*◌, ℤ, List, length, arith}
-use Rattle.cu_store.specs.Steps.{Shown, OnceEach}
-use Rattle.cu_store.proofs.Once.{once_then}
+use Rattle.std.proofs.Common.{inl, inr, ℕ, ◌+◌, ◌*◌, ℤ, List, length, arith}
+use Rattle.cu_store.specs.Steps.{Shown}
 use Rattle.cu_command.specs.Seen.{Seen, WithinCalls}
 use Rattle.cu_command.specs.declared.job.Job.{Job}
 use Rattle.cu_command.specs.declared.status.Status.{Status}
@@ -12,7 +11,7 @@ use Rattle.cu_load.specs.Load.{chunks_in}
 use Rattle.cu_work.specs.declared.run.HeldTexts.TheVariants.{Neither}
 use Rattle.cu_top.proofs.CallLimits.{begun_then, begun_within, starts_before, starts_then}
 use Rattle.cu_top.specs.Calls.{BegunWithin, DemosWithin, DriveWithin, demo_limits}
-use Rattle.cu_top.specs.Demo.{DemoCase, DemoWithinStarts, IsDemoRefused, IsDemoAskEnd, IsInputsFault, ResultTells, demo_array, demo_keys}
+use Rattle.cu_top.specs.Demo.{DemoCase, DemoWithinStarts, IsDemoRefused, IsDemoAskEnd, IsInputsFault, ResultTells, demo_array, demo_before, demo_behind}
 use Rattle.cu_top.specs.Limits.{task_calls, WithinStarts}
 use Rattle.cu_top.specs.Prepare.{asked_keys, job_plan}
 use Rattle.cu_top.specs.declared.report.RunCounts.{RunCounts}
@@ -31,22 +30,16 @@ module _ (c : DemoCase) where
     abbrev storing : ℕ
     storing = ((chunks_in (demo_array Rows c.size) + 1) + (chunks_in (demo_array Columns c.size) + 1)) * (c.options.retries + 1)
 
-    -- the inputs' own keys
-    abbrev stored_keys : ℕ
-    stored_keys = (chunks_in (demo_array Rows c.size) + 1) + (chunks_in (demo_array Columns c.size) + 1)
-
     -- the calls by the starts that are counted, where all tasks are done and the result was read
-    pub demo_starts : (n : RunCounts) (mid start ran : Shown) → WithinCalls asking c.old.depot mid → OnceEach (6 + length (asked_keys c.options job)) c.old.depot mid
-        → WithinCalls storing mid start → OnceEach stored_keys mid start → WithinStarts (3 * (c.options.retries + 1)) 3 (job_plan c.options job) n start ran
-        → WithinCalls (c.options.retries + 1) ran c.new.depot → OnceEach 1 ran c.new.depot → DemoWithinStarts c job n
-    demo_starts n mid start ran asked asked_each stored stored_each run read read_once =
+    pub demo_starts : (n : RunCounts) (mid start ran : Shown) → WithinCalls asking c.old.depot mid → WithinCalls storing mid start
+        → WithinStarts (3 * (c.options.retries + 1)) (job_plan c.options job) n start ran → WithinCalls (c.options.retries + 1) ran c.new.depot → DemoWithinStarts c job n
+    demo_starts n mid start ran asked stored run read =
         let tries = c.options.retries + 1 in
-        let keys = 6 + length (asked_keys c.options job) in
+        let before = demo_before c.options c.size job in
         let both : WithinCalls (asking + storing) c.old.depot start = omega (arith, asked, stored) in
-        starts_before ((keys + stored_keys + 3) * tries) (demo_keys c.options c.size job * tries) tries (keys + stored_keys + 3) (demo_keys c.options c.size job) 1 (job_plan c.options job) n c.old.depot ran c.new.depot
-        (starts_then (asking + storing) (3 * tries) ((keys + stored_keys + 3) * tries) (keys + stored_keys) 3 (keys + stored_keys + 3) (job_plan c.options job) n c.old.depot start ran
-        both (omega arith) (once_then keys stored_keys c.old.depot mid start asked_each stored_each) (omega arith) run)
-        read (omega arith) read_once (omega arith)
+        starts_before ((before + 3) * tries) ((before + demo_behind) * tries) tries (job_plan c.options job) n c.old.depot ran c.new.depot
+        (starts_then (asking + storing) (3 * tries) ((before + 3) * tries) (job_plan c.options job) n c.old.depot start ran both (omega arith) run)
+        read (omega arith)
 
     pub demo_asked : (s : Status) → IsDemoAskEnd (c.options.retries + 1) (asked_keys c.options job) c.old.depot c.new.depot s → WithinCalls asking c.old.depot c.new.depot → DemosWithin c s
     demo_asked (Exists key) why calls = inr (job, is, calls)

@@ -8,7 +8,7 @@ use Rattle.cu_node.specs.declared.info.NodeInfo.{NodeInfo}
 use Rattle.cu_form.specs.Expression.{Expression}
 use Rattle.cu_shape.specs.Index.{IsInside}
 use Rattle.cu_store.specs.Held.{Contents}
-use Rattle.cu_store.specs.Steps.{Shown, NoChange, OrLate, Lands}
+use Rattle.cu_store.specs.Steps.{Shown, NoChange, OrLate, Lands, OnceEach}
 use Rattle.cu_store.proofs.Steps.{steps_none}
 use Rattle.cu_zarr.specs.Stored.{element_in, stored_element}
 use Rattle.cu_op.specs.Layout.{layout_view}
@@ -28,7 +28,8 @@ use Rattle.cu_command.specs.declared.status.Status.TheVariants.{Done, OverMemory
 use Rattle.cu_command.proofs.SeenLemmas.{stepped_none, stepped_same, stepped_then}
 use Rattle.cu_load.proofs.AskLemmas.{rose_earlier}
 use Rattle.cu_demo.specs.Expression.{IsDemoJob, demo_text}
-use Rattle.cu_top.specs.Demo.{DemoWithinStarts, DemoCase, DemoTells, InputsPut, AreInputsFree, IsDemoAskEnd, IsDemoRefused, IsDemoStarted, IsInputsFault, IsResultUnread, KeepsInputs, ResultTells, demo_case, demo_run, result_key, result_layout, result_line}
+use Rattle.cu_top.proofs.CallLimits.{once_behind}
+use Rattle.cu_top.specs.Demo.{DemoWithinStarts, DemoCase, DemoTells, InputsPut, AreInputsFree, IsDemoAskEnd, IsDemoRefused, IsDemoStarted, IsInputsFault, IsResultUnread, KeepsInputs, ResultTells, demo_behind, demo_case, demo_run, result_key, result_layout, result_line}
 use Rattle.cu_top.proofs.Completeness.{not_bad}
 use Rattle.cu_top.specs.Complete.{AreWhole}
 use Rattle.cu_top.specs.Prepare.{HasPlan, asked_keys, job_plan, out_layout}
@@ -150,11 +151,21 @@ module _ (options : Options) (job : Job) (found ran new : Shown) (step : Stepped
             subst (IsMeant job entry) same (meant entry new at (complete entry told left)),
       )
 
-  pub counted_later : (n : RunCounts) → IsCounted (run_to options found ran) job n → IsCounted (run_to options found new) job n
-  counted_later n ((history, m, h, fact), least, exact, most, few) =
+  pub counted_later : (keys k : ℕ) (n : RunCounts) → OnceEach k ran new → IsCounted (run_to options found ran) job keys n → IsCounted (run_to options found new) job (keys + k) n
+  counted_later keys k n read ((history, m, h, (done, starts, failures, made)), least, exact, most, few) =
       let rose = h.rose in
-      let more = step.step.count in
-      ((history, m, record { legal = h.legal; resting = h.resting; workers = h.workers; rose = omega (arith, rose, more) }, fact), least, exact, most, few)
+      let more = step.step.count in (
+        (
+          history,
+          m,
+          record { legal = h.legal; resting = h.resting; workers = h.workers; rose = omega (arith, rose, more) },
+          (done, starts, failures, once_behind keys k (plan_in (run_to options found ran) job) history found ran new made read),
+        ),
+        least,
+        exact,
+        most,
+        few,
+      )
 
 -- ---- the result
 
@@ -200,16 +211,17 @@ module _ (options : Options) (n : ℕ) (job : Job) (is : IsDemoJob n job) (found
 -- ---- the end
 
 module _ (lack : Bool) (c : DemoCase) (job : Job) (found ran : Shown) (n : RunCounts) (start : IsDemoStarted c job found) (calm : IsCalm c.options demo_text found)
-    (meant : MeantLaw c.options job found) (ended : Ended lack (run_to c.options found ran) job (Ok n)) (step : Stepped NoChange ran c.new.depot) (earlier : c.old.depot.faults ≤ ran.faults)
-    (keeps : (other : Job) → IsStarted (run_to c.options found c.new.depot) other → KeepsInputs c) (starts : DemoWithinStarts c job n) where
+    (meant : MeantLaw c.options job found) (ended : Ended lack (run_to c.options found ran) job 3 (Ok n)) (step : Stepped NoChange ran c.new.depot) (earlier : c.old.depot.faults ≤ ran.faults)
+    (keeps : (other : Job) → IsStarted (run_to c.options found c.new.depot) other → KeepsInputs c) (starts : DemoWithinStarts c job n)
+    (once : OnceEach 1 ran c.new.depot) where
   s : IsStarted (run_to c.options found c.new.depot) job
   s = started_later c.options job found ran c.new.depot step meant ended.0
 
   all : HoldsAll (run_to c.options found c.new.depot) job
   all = all_later c.options job found ran c.new.depot step meant ended.0 ended.1
 
-  counted : IsCounted (run_to c.options found c.new.depot) job n
-  counted = counted_later c.options job found ran c.new.depot step meant ended.0 n ended.2
+  counted : IsCounted (run_to c.options found c.new.depot) job demo_behind n
+  counted = counted_later c.options job found ran c.new.depot step meant ended.0 3 1 n once ended.2
 
   unread : (status : Status) → IsResultUnread (c.options.retries + 1) ran c.new.depot status → IsResultUnread (c.options.retries + 1) c.old.depot c.new.depot status
   unread (DepotFailed key) fault = (fault.0, rose_earlier (c.options.retries + 1) c.old.depot.faults ran.faults c.new.depot.faults earlier fault.1)

@@ -1,7 +1,7 @@
 -- The calls of storing a plan's texts and running its tasks, by what is answered.
 use Rattle.std.proofs.Common.{◌≡◌, ℕ, ◌+◌, ◌*◌, ◌≤◌, List, Result, Ok, Err, subst, sym, arith}
 use Rattle.std.specs.Prelude.{IfErr, IfOk, OnErr}
-use Rattle.cu_store.specs.Steps.{Shown, OnceEach}
+use Rattle.cu_store.specs.Steps.{Shown}
 use Rattle.cu_op.specs.PlanView.{PlanView}
 use Rattle.cu_command.specs.Seen.{WithinCalls}
 use Rattle.cu_command.specs.declared.job.Job.{Job}
@@ -34,7 +34,6 @@ pub record RunMakes (h : RunOptions) (p : PlanView) (held : HeldTexts) (old new 
   pub begun : OnErr result (new.calls ≤ old.calls + (missing_texts held + 1) * (h.retries + 1))
   pub all : new.calls ≤ old.calls + (missing_texts held + 1) * (h.retries + 1) + most_calls h p
   pub starts : (m : ℕ) → IsTaskMost p m → IfOk result (λ end. new.calls ≤ old.calls + (missing_texts held + 1) * (h.retries + 1) + count_kind is_start end.table.history * m)
-  pub once : (m : ℕ) → IsTaskMost p m → IfOk result (λ end. OnceEach (missing_texts held + 1 + count_kind is_start end.table.history * m) old new)
 
 module _ (o : Options) (job : Job) (held : HeldTexts) (old new : Shown) where
   own_options : (h : RunOptions) (p : PlanView) (result : Result RunEnd RunFault) → h ≡ run_options o → p ≡ job_plan o job → RunMakes h p held old new result
@@ -50,7 +49,7 @@ module _ (o : Options) (job : Job) (held : HeldTexts) (old new : Shown) where
   all_within = WithinCalls ((missing_texts held + 1) * (o.retries + 1) + task_calls o job) old new
 
   abbrev starts_within : RunCounts → Type 0
-  starts_within counts = WithinStarts ((missing_texts held + 1) * (o.retries + 1)) (missing_texts held + 1) (job_plan o job) counts old new
+  starts_within counts = WithinStarts ((missing_texts held + 1) * (o.retries + 1)) (job_plan o job) counts old new
 
   all_of : (result : Result RunEnd RunFault) → RunMakes (run_options o) (job_plan o job) held old new result → all_within
   all_of result makes = summed old.calls ((missing_texts held + 1) * (o.retries + 1)) (task_calls o job) new.calls makes.all
@@ -85,7 +84,7 @@ module _ (o : Options) (job : Job) (held : HeldTexts) (old new : Shown) where
   answer_starts : (of_record : List ℕ) (p : PlanView) (result : Result RunEnd RunFault) → RunMakes (run_options o) (job_plan o job) held old new result → IfOk (drive_answer of_record p result) starts_within
   answer_starts of_record p (Ok e) makes =
       outcome_starts p e.outcome (run_counts_in e.table.history)
-      (λ m most. (summed old.calls ((missing_texts held + 1) * (o.retries + 1)) (count_kind is_start e.table.history * m) new.calls (makes.starts m most), makes.once m most))
+      (λ m most. summed old.calls ((missing_texts held + 1) * (o.retries + 1)) (count_kind is_start e.table.history * m) new.calls (makes.starts m most))
   answer_starts of_record p (Err f) makes = tt
 
   pub drive_starts : (h : RunOptions) (p : PlanView) (of_record : List ℕ) (result : Result RunEnd RunFault) (answer : Result RunCounts Status) → h ≡ run_options o → p ≡ job_plan o job

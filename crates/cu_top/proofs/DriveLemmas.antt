@@ -25,10 +25,11 @@ use Rattle.cu_table.specs.Step.{Settings, Replays}
 use Rattle.cu_table.specs.Table.{TableView}
 use Rattle.cu_work.proofs.FewFailures.{failures_few}
 use Rattle.cu_work.proofs.Running.{left_stored}
+use Rattle.cu_work.specs.Calls.{missing_texts}
 use Rattle.cu_work.specs.Drive.{IsBadChunk, IsInputKey}
 use Rattle.cu_work.specs.Run.{AreTextsHeld, HoldsTexts, IsMissingKey, IsRunFault, PutOfMissing, run_of as work_run, IsRecordFirst as IsTextFirst, IsUnstored as IsTextUnstored}
 use Rattle.cu_work.specs.Shared.{IsOpen, IsOpenAs, HoldsDone, HasDriven, AreCounted, opened_table, IfBadChunk, IfComplete, IfLacked}
-use Rattle.cu_work.specs.Starts.{IsOfWorkers}
+use Rattle.cu_work.specs.Starts.{IsOfWorkers, WithinHistory}
 use Rattle.cu_work.specs.declared.options.RunOptions.{RunOptions}
 use Rattle.cu_work.specs.declared.outcome.Outcome.{Outcome}
 use Rattle.cu_work.specs.declared.outcome.Outcome.TheVariants as ended
@@ -255,6 +256,7 @@ pub record RunTold (how : RunOptions) (table : TableView) (t : Texts) (d : Drive
   pub driven : IfOk result (λ e. HasDriven table e.table d.shown.0 d.shown.1 e.outcome)
   pub workers : IfOk result (λ e. IsOfWorkers how.workers table.settings e.table.history)
   pub counts : IfOk result (λ e. IfComplete e.outcome (AreCounted table e.table))
+  pub once : IfOk result (λ e. WithinHistory (missing_texts d.held + 1) d.run.plan e.table.history d.shown.0 d.shown.1)
   pub done : (env : Elements) → IsLeft d.run env d.shown.0 → IfOk result (λ e. HoldsDone d.run env e.table.state d.shown.1)
   pub complete : (env : Elements) → IsLeft d.run env d.shown.0 → IfOk result (λ e. IfComplete e.outcome (IsComplete d.run env d.shown.1))
   pub bad : IfOk result (λ e. IfBadChunk e.outcome (IsBadChunk d.run.plan d.shown.1))
@@ -274,6 +276,7 @@ module _ (o : Options) (p : PlanView) (t : Texts) (held : HeldTexts) (done : Lis
     driven = told.driven;
     workers = told.workers;
     counts = told.counts;
+    once = told.once;
     texts = told.texts;
     done = told.done;
     complete = told.complete;

@@ -4,7 +4,7 @@ use Rattle.std.specs.Prelude.{Bool, true, false, ◌⊎◌, ◌↔◌, if◌then
 use Rattle.std.proofs.lemmas.List.Elements.{Contains-append_right}
 use Rattle.cu_store.specs.Faults.{last_count, Rose}
 use Rattle.cu_store.specs.Held.{Contents, Holds, IsHeldIn}
-use Rattle.cu_store.specs.Steps.{Shown, NoChange, OrLate, Lands, Within, Steps}
+use Rattle.cu_store.specs.Steps.{Shown, NoChange, OnceEach, OrLate, Lands, Within, Steps}
 use Rattle.cu_zarr.specs.Key.{metadata_key_of}
 use Rattle.cu_name.specs.Keys.{record_key_of}
 use Rattle.cu_op.specs.PlanView.{PlanView}
@@ -32,7 +32,11 @@ use Rattle.cu_work.specs.declared.outcome.Outcome.{Outcome}
 use Rattle.cu_work.specs.declared.outcome.Outcome.TheVariants as ended
 use Rattle.cu_work.specs.declared.outcome.RunEnd.{RunEnd}
 use Rattle.cu_work.specs.declared.run.HeldTexts.{HeldTexts}
+use Rattle.cu_work.specs.Calls.{missing_texts}
+use Rattle.cu_work.specs.Starts.{WithinHistory}
 use Rattle.cu_work.specs.declared.run.HeldTexts.TheVariants as given
+use Rattle.cu_work.proofs.SharedCalls.{once_before}
+use Rattle.cu_top.proofs.CallLimits.{more_keys}
 use Rattle.cu_work.specs.declared.run.RunFault.{RunFault}
 use Rattle.cu_work.specs.declared.run.RunFault.TheVariants as text
 use Rattle.cu_command.specs.Seen.{Stepped}
@@ -210,8 +214,15 @@ module _ (c : RunCase) (job : Job) where
   rest_refused lack start NoMemory back first second none = inl (stepped_then first second)
   rest_refused lack start status back first second none = absurd none
 
+-- one text isn't held at most
+few_texts : (held : HeldTexts) → HasRecord held → missing_texts held ≤ 1
+few_texts given.Neither has = absurd has
+few_texts given.Record has = omega arith
+few_texts given.Both has = omega arith
+
 module _ (c : RunCase) (job : Job) (laws : PlanLaws c job) (start : Shown) (spared : Stepped NoChange c.old.depot start) (back : IsReopened c job)
-    (opens_at : WhereEntryTold c job (λ env. IsLeft (job_run c job) env c.old.depot)) (held : HeldTexts) (has : HasRecord held) (done : List Bool) (lack : Bool) (goes : ResumeLaws) (histories : HistoryLaws) where
+    (opens_at : WhereEntryTold c job (λ env. IsLeft (job_run c job) env c.old.depot)) (held : HeldTexts) (has : HasRecord held) (done : List Bool) (lack : Bool) (goes : ResumeLaws) (histories : HistoryLaws)
+    (asked : ℕ) (once : OnceEach asked c.old.depot start) where
   left_now : WhereEntryTold c job (λ env. IsLeft (job_run c job) env start)
   left_now entry told = kept c job laws start spared (env_of c job entry) (opens_at entry told)
 
@@ -295,9 +306,16 @@ module _ (c : RunCase) (job : Job) (laws : PlanLaws c job) (start : Shown) (spar
         least = λ none. let some = ends.counts.0 in let many = at_least_absent (plan_in c job) done long entry (undone_least none) in omega (arith, some, many);
       }
 
-    counted_on : (t : TableView) → HasEnded (started_case c job laws start spared held done lack) ended.Complete t → IsCountedOn c job (run_counts_in t.history)
+    -- one text and sharing are called for beside what was asked for
+    once_on : (t : TableView) → HasEnded (started_case c job laws start spared held done lack) ended.Complete t → WithinHistory (asked + 2) (plan_in c job) t.history c.old.depot c.new.depot
+    once_on t ends =
+        let few = few_texts held has in
+        more_keys (asked + (missing_texts held + 1)) (asked + 2) (plan_in c job) t.history c.old.depot c.new.depot (omega (arith, few))
+        (once_before asked (missing_texts held + 1) (plan_in c job) t.history c.old.depot start c.new.depot once ends.once)
+
+    counted_on : (t : TableView) → HasEnded (started_case c job laws start spared held done lack) ended.Complete t → IsCountedOn c job (asked + 2) (run_counts_in t.history)
     counted_on t ends = (
-      (done, t.history, t.state, gone_on ended.Complete t ends, (ends.driven.decided.1, refl, ends.counts.0, ends.counts.1)),
+      (done, t.history, t.state, gone_on ended.Complete t ends, (ends.driven.decided.1, refl, once_on t ends, ends.counts.0, ends.counts.1)),
       few_failures c job laws start spared held done lack ended.Complete t ends ends.driven.decided.0,
       few_starts c job laws start spared held done lack ended.Complete t ends,
       λ entry told. of_absent entry told t ends,
@@ -311,7 +329,7 @@ module _ (c : RunCase) (job : Job) (laws : PlanLaws c job) (start : Shown) (spar
         let at_first = (goes.opened (plan_in c job) done op task).1 (named entry told op task is all) in
         goes.undone (settings_of c job) done t.history t.state op task legal ends.driven.decided (goes.remains (settings_of c job) (opening done) t.history t.state op task legal.1 at_first)
 
-    resume_by : (o : Outcome) (t : TableView) → HasEnded (started_case c job laws start spared held done lack) o t → ResumeEnded lack c job (outcome_answer (plan_in c job) o (run_counts_in t.history))
+    resume_by : (o : Outcome) (t : TableView) → HasEnded (started_case c job laws start spared held done lack) o t → ResumeEnded lack c job (asked + 2) (outcome_answer (plan_in c job) o (run_counts_in t.history))
     resume_by ended.Complete t ends = (
       resumed,
       stored c job laws start spared held done lack step (λ entry told left. ends.complete (env_of c job entry) (left_start c job laws start spared entry told left)),
@@ -358,19 +376,19 @@ module _ (c : RunCase) (job : Job) (laws : PlanLaws c job) (start : Shown) (spar
   -- what a run that goes on comes to
   pub resume_ended : AreHeld held (job_run c job) start.held → ((now : Contents) → start.held ≡ Some now → IsFound (plan_in c job) now done)
       → ((entry : Contents) → c.old.depot.held ≡ Some entry → NamesStored (plan_in c job) entry done) → (result : Result RunEnd RunFault)
-      → Driven (started_case c job laws start spared held done lack) result → ResumeEnded lack c job (drive_answer (record_key_of job.expr.store_as) (plan_in c job) result)
+      → Driven (started_case c job laws start spared held done lack) result → ResumeEnded lack c job (asked + 2) (drive_answer (record_key_of job.expr.store_as) (plan_in c job) result)
   resume_ended texts found named (Ok e) told = resume_by texts found named told.step e.outcome e.table told.ended
   resume_ended texts found named (Err f) told = unrun_resume texts found named told.step f told.unrun
 
 -- ---- the report
 
-pub resume_done : (lack : Bool) (c : RunCase) (job : Job) (n : RunCounts) → ResumeEnded lack c job (Ok n)
-    → WithinStarts (resume_limits c.options c.text job).begun (resume_keys c.options c.text job) (plan_in c job) n c.old.depot c.new.depot
+pub resume_done : (lack : Bool) (c : RunCase) (job : Job) (n : RunCounts) → ResumeEnded lack c job (resume_keys c.options c.text job) (Ok n)
+    → WithinStarts (resume_limits c.options c.text job).begun (plan_in c job) n c.old.depot c.new.depot
     → WroteTo c (report_line (plan_in c job) n) (length (report_line (plan_in c job) n)) → WasResumed lack c Done
 resume_done lack c job n h calls wrote = (job, h.0, (h.1, (n, h.2, calls, wrote)))
 
-pub resume_unreported : (lack : Bool) (c : RunCase) (job : Job) (n : RunCounts) → ResumeEnded lack c job (Ok n)
-    → WithinStarts (resume_limits c.options c.text job).begun (resume_keys c.options c.text job) (plan_in c job) n c.old.depot c.new.depot → Rose 1 c.old.sink.faults c.new.sink.faults
+pub resume_unreported : (lack : Bool) (c : RunCase) (job : Job) (n : RunCounts) → ResumeEnded lack c job (resume_keys c.options c.text job) (Ok n)
+    → WithinStarts (resume_limits c.options c.text job).begun (plan_in c job) n c.old.depot c.new.depot → Rose 1 c.old.sink.faults c.new.sink.faults
     → ((k : ℕ) × (k ≤ length (report_line (plan_in c job) n)) × WroteTo c (report_line (plan_in c job) n) k) → WasResumed lack c WriteFault
 resume_unreported lack c job n h calls rose wrote = (rose, (job, h.0, (h.1, (n, h.2, calls, wrote))))
 

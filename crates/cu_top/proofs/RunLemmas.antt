@@ -6,7 +6,7 @@ use Rattle.std.proofs.lemmas.Bool.{cases_lt}
 use Rattle.std.proofs.lemmas.List.Elements.{All-weaker, All-contains, Contains-append_left, Contains-append_right}
 use Rattle.cu_store.specs.Faults.{last_count, Rose}
 use Rattle.cu_store.specs.Held.{Contents}
-use Rattle.cu_store.specs.Steps.{Shown, NoChange, OrLate, Lands, Steps}
+use Rattle.cu_store.specs.Steps.{Shown, NoChange, OnceEach, OrLate, Lands, Steps}
 use Rattle.cu_zarr.specs.Key.{metadata_key_of, zarray_key_of}
 use Rattle.cu_name.specs.Keys.{record_key_of}
 use Rattle.cu_op.specs.declared.cells.Cell.{Cell}
@@ -24,6 +24,7 @@ use Rattle.cu_table.specs.Table.{TableView, undone_among}
 use Rattle.cu_work.specs.Order.{IsFree, IsFirst, plan_keys, operation_keys, task_keys}
 use Rattle.cu_work.specs.Run.{IsRecordFirst as IsTextFirst}
 use Rattle.cu_work.specs.Shared.{none_done, IsOpen}
+use Rattle.cu_work.proofs.SharedCalls.{once_before}
 use Rattle.cu_work.specs.declared.outcome.Outcome.{Outcome}
 use Rattle.cu_work.specs.declared.outcome.Outcome.TheVariants as ended
 use Rattle.cu_work.specs.declared.outcome.RunEnd.{RunEnd}
@@ -160,7 +161,7 @@ module _ (c : RunCase) (job : Job) (laws : PlanLaws c job) (start : Shown) (clea
       open_start c job laws start cleared.spared
       (λ entry told. left_old entry told (subst (λ (h : Option Contents). IsCalmFor (job_run c job) h c.old.depot.late) told (calm job cleared.accepted cleared.planned)))
 
-  module _ (lack : Bool) (histories : HistoryLaws) (fresh : FreshLaw) where
+  module _ (lack : Bool) (histories : HistoryLaws) (fresh : FreshLaw) (asked : ℕ) (once : OnceEach asked c.old.depot start) where
     abbrev pub none : List Bool
     none = none_done (plan_in c job)
 
@@ -185,12 +186,17 @@ module _ (c : RunCase) (job : Job) (laws : PlanLaws c job) (start : Shown) (clea
             ];
       }
 
-      counted : (t : TableView) → HasEnded (started_case c job laws start cleared.spared Neither none lack) ended.Complete t → IsCounted c job (run_counts_in t.history)
+      counted : (t : TableView) → HasEnded (started_case c job laws start cleared.spared Neither none lack) ended.Complete t → IsCounted c job (asked + 3) (run_counts_in t.history)
       counted t ends =
           let all = fresh none (all_replicated (task_count (plan_in c job))) in
           let length_is : length none ≡ task_count (plan_in c job) = length-replicate (task_count (plan_in c job)) false in
           let least = ends.counts.0 in (
-            (t.history, t.state, history_of c job laws start cleared.spared Neither none lack ended.Complete t ends, (ends.driven.decided.1, refl, refl)),
+            (
+              t.history,
+              t.state,
+              history_of c job laws start cleared.spared Neither none lack ended.Complete t ends,
+              (ends.driven.decided.1, refl, refl, once_before asked 3 (plan_in c job) t.history c.old.depot start c.new.depot once ends.once),
+            ),
             omega (arith, least, all, length_is),
             λ alone. (let exactly = ends.counts.1 alone in omega (arith, exactly, all, length_is)),
             few_failures c job laws start cleared.spared Neither none lack ended.Complete t ends ends.driven.decided.0,
@@ -198,7 +204,7 @@ module _ (c : RunCase) (job : Job) (laws : PlanLaws c job) (start : Shown) (clea
           )
 
       -- what a run comes to whose tasks were run
-      ended_by : (o : Outcome) (t : TableView) → HasEnded (started_case c job laws start cleared.spared Neither none lack) o t → Ended lack c job (outcome_answer (plan_in c job) o (run_counts_in t.history))
+      ended_by : (o : Outcome) (t : TableView) → HasEnded (started_case c job laws start cleared.spared Neither none lack) o t → Ended lack c job (asked + 3) (outcome_answer (plan_in c job) o (run_counts_in t.history))
       ended_by ended.Complete t ends = (
         run_started,
         stored c job laws start cleared.spared Neither none lack step (λ entry is calm. ends.complete (env_of c job entry) (left_start c job laws start cleared.spared entry is calm)),
@@ -273,20 +279,20 @@ module _ (c : RunCase) (job : Job) (laws : PlanLaws c job) (start : Shown) (clea
 
     -- what a run comes to
     pub run_ended : (result : Result RunEnd RunFault) → Driven (started_case c job laws start cleared.spared Neither none lack) result
-        → Ended lack c job (drive_answer (record_key_of job.expr.store_as) (plan_in c job) result)
+        → Ended lack c job (asked + 3) (drive_answer (record_key_of job.expr.store_as) (plan_in c job) result)
     run_ended (Ok e) told = ended_by told.step told.first e.outcome e.table told.ended
     run_ended (Err f) told = unrun_by told.step told.first f told.unrun
 
 -- ---- the report
 
 -- a run whose output is complete, and whose line was written
-pub run_done : (lack : Bool) (c : RunCase) (job : Job) (n : RunCounts) → Ended lack c job (Ok n)
-    → WithinStarts (run_limits c.options c.text job).begun (run_keys c.options c.text job) (plan_in c job) n c.old.depot c.new.depot
+pub run_done : (lack : Bool) (c : RunCase) (job : Job) (n : RunCounts) → Ended lack c job (run_keys c.options c.text job) (Ok n)
+    → WithinStarts (run_limits c.options c.text job).begun (plan_in c job) n c.old.depot c.new.depot
     → WroteTo c (report_line (plan_in c job) n) (length (report_line (plan_in c job) n)) → Ran lack c Done
 run_done lack c job n h calls wrote = (job, h.0, (h.1, (n, h.2, calls, wrote)))
 
-pub run_unreported : (lack : Bool) (c : RunCase) (job : Job) (n : RunCounts) → Ended lack c job (Ok n)
-    → WithinStarts (run_limits c.options c.text job).begun (run_keys c.options c.text job) (plan_in c job) n c.old.depot c.new.depot → Rose 1 c.old.sink.faults c.new.sink.faults
+pub run_unreported : (lack : Bool) (c : RunCase) (job : Job) (n : RunCounts) → Ended lack c job (run_keys c.options c.text job) (Ok n)
+    → WithinStarts (run_limits c.options c.text job).begun (plan_in c job) n c.old.depot c.new.depot → Rose 1 c.old.sink.faults c.new.sink.faults
     → ((k : ℕ) × (k ≤ length (report_line (plan_in c job) n)) × WroteTo c (report_line (plan_in c job) n) k) → Ran lack c WriteFault
 run_unreported lack c job n h calls rose wrote = (rose, (job, h.0, (h.1, (n, h.2, calls, wrote))))
 

@@ -361,7 +361,7 @@ pub record LoadAnswered (retries : ℕ) (old new : Scene) (status : Status) : Ty
   pub loads : Loaded retries old.source new.source (seen_in old) (seen_in new) status
   -- how many calls of the depot it makes at most
   pub calls : LoadsWithin retries old.source.told new.source.told old.depot new.depot
-  -- each key once, and again only where a call failed
+  -- one call for each key at most, and beyond these no more than failed
   pub once : LoadsOnce old.source.told new.source.told old.depot new.depot
   -- where few calls fail, no key is given up
   pub few_failures : FewFailed retries old.depot new.depot → IsNotGivenUp status
@@ -377,7 +377,7 @@ pub record CheckAnswered (retries : ℕ) (old new : Scene) (status : Status) : T
   pub checks : Checked retries old.source new.source (seen_in old) (seen_in new) status
   -- how many calls of the depot it makes at most
   pub calls : ChecksWithin (retries + 1) old.source new.source old.depot new.depot
-  -- each key once, and again only where a call failed
+  -- one call for each key at most, and beyond these no more than failed
   pub once : ChecksOnce old.source new.source old.depot new.depot
   -- where few calls fail, no key is given up
   pub few_failures : FewFailed retries old.depot new.depot → IsNotGivenUp status
@@ -390,7 +390,7 @@ pub record PrintAnswered (name : List ℕ) (retries : ℕ) (old new : Scene) (st
   pub kept : new.source.told ≡ old.source.told
   -- how many calls of the depot it makes at most
   pub calls : PrintsWithin (retries + 1) name old.depot new.depot
-  -- each key once, and again only where a call failed
+  -- one call for each key at most, and beyond these no more than failed
   pub once : PrintsOnce name old.depot new.depot
   -- where few calls fail, no key is given up
   pub few_failures : FewFailed retries old.depot new.depot → IsNotGivenUp status

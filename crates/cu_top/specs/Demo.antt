@@ -5,7 +5,7 @@ use Rattle.cu_num.specs.declared.types.Dtype.TheVariants.{Int64}
 use Rattle.cu_node.specs.Info.{info_of}
 use Rattle.cu_store.specs.Faults.{Rose}
 use Rattle.cu_store.specs.Held.{Contents, Write, IsAmong}
-use Rattle.cu_store.specs.Steps.{Shown, Changes, OrLate, Lands, AllLateIn}
+use Rattle.cu_store.specs.Steps.{Shown, Changes, OrLate, Lands, AllLateIn, OnceEach}
 use Rattle.cu_name.specs.Keys.{record_key_of}
 use Rattle.cu_zarr.specs.Key.{chunk_key_of, metadata_key_of, zarray_key_of}
 use Rattle.cu_zarr.specs.Stored.{stored_element}
@@ -153,12 +153,20 @@ pub record FoundByDemo (n : ℕ) (old found : Shown) : Type 0 where
   pub stored : AreInputsCalm n old.late → StoresDemoInputs n found.held
   pub faults : old.faults ≤ found.faults
 
--- The keys of the inputs and of the plan were absent when the call began, and this is what its run found.
+-- How many keys are called for before the run: three of each input that are asked for, and those
+-- that a run asks for; and the chunks and the metadata of each input.
+abbrev pub demo_before : Options → ℕ → Job → ℕ
+demo_before o n job = 6 + length (asked_keys o job)
+    + ((chunks_in (demo_array Rows n) + 1) + (chunks_in (demo_array Columns n) + 1))
+
+-- The keys of the inputs and of the plan were absent when the call began, and this is what its run
+-- found. Beside one call for each key that was called for until then there are no more than failed.
 pub record IsDemoStarted (c : DemoCase) (job : Job) (found : Shown) : Type 0 where
   pub accepted : IsDemoJob c.size job
   pub inputs : AreInputsFree c.old.depot.held
   pub keys : (entry : Contents) → c.old.depot.held ≡ Some entry → All (IsFree entry) (asked_keys c.options job)
   pub entry : FoundByDemo c.size c.old.depot found
+  pub once : OnceEach (demo_before c.options c.size job) c.old.depot found
 
 -- the run from what it found to what is seen at the end
 abbrev pub demo_run : DemoCase → Shown → RunCase
@@ -172,22 +180,21 @@ DemoRan c fact = (job : Job) × (found : Shown) × IsDemoStarted c job found × 
 abbrev pub KeepsInputs : DemoCase → Type 0
 KeepsInputs c = AreInputsCalm c.size c.old.depot.late → StoresDemoInputs c.size c.new.depot.held
 
--- How many keys are called for, beside those of the tasks: three of each input that are asked for, and
--- those that a run asks for; the chunks and the metadata of each input; the two texts, and sharing the
--- keys; and the chunk of the result.
-abbrev pub demo_keys : Options → ℕ → Job → ℕ
-demo_keys o n job = 6 + length (asked_keys o job)
-    + ((chunks_in (demo_array Rows n) + 1) + (chunks_in (demo_array Columns n) + 1)) + 3 + 1
+-- How many from then on, beside those of the tasks: the two texts, sharing the keys, and the chunk
+-- of the result.
+abbrev pub demo_behind : ℕ
+demo_behind = 4
 
 -- the calls by the starts that are counted
 abbrev pub DemoWithinStarts : DemoCase → Job → RunCounts → Type 0
 DemoWithinStarts c job n =
-    let keys = demo_keys c.options c.size job in
-    WithinStarts (keys * (c.options.retries + 1)) keys (job_plan c.options job) n c.old.depot c.new.depot
+    let keys = demo_before c.options c.size job + demo_behind in
+    WithinStarts (keys * (c.options.retries + 1)) (job_plan c.options job) n c.old.depot c.new.depot
 
 -- the output is complete, and the inputs are kept
 abbrev pub IsDemoComplete : DemoCase → (RunCase → Job → RunCounts → Type 0) → Type 0
-IsDemoComplete c fact = KeepsInputs c × DemoRan c (λ r job. (n : RunCounts) × IsStarted r job × HoldsAll r job × IsCounted r job n
+IsDemoComplete c fact = KeepsInputs c × DemoRan c (λ r job. (n : RunCounts)
+    × IsStarted r job × HoldsAll r job × IsCounted r job demo_behind n
     × DemoWithinStarts c job n × fact r job n)
 
 -- ---- the result

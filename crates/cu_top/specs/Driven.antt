@@ -13,10 +13,11 @@ use Rattle.cu_lower.specs.declared.options.Options.{Options}
 use Rattle.cu_run_law.specs.Left.{IsLeft, RunChange}
 use Rattle.cu_run_law.specs.Pieces.{PlanRun, text_at, IsComplete}
 use Rattle.cu_table.specs.Table.{TableView}
+use Rattle.cu_work.specs.Calls.{missing_texts}
 use Rattle.cu_work.specs.Drive.{IsBadChunk, IsInputKey}
 use Rattle.cu_work.specs.Run.{IsRecordFirst, IsUnstored, HoldsTexts}
 use Rattle.cu_work.specs.Shared.{opened_table, HasDriven, HoldsDone, AreCounted, IfBadChunk, IfComplete, IfLacked}
-use Rattle.cu_work.specs.Starts.{IsOfWorkers}
+use Rattle.cu_work.specs.Starts.{IsOfWorkers, WithinHistory}
 use Rattle.cu_work.specs.declared.options.RunOptions.{RunOptions}
 use Rattle.cu_work.specs.declared.outcome.Outcome.{Outcome}
 use Rattle.cu_work.specs.declared.outcome.Outcome.TheVariants as ended
@@ -105,6 +106,7 @@ pub record HasEnded (d : DriveCase) (o : Outcome) (t : TableView) : Type 0 where
   pub driven : HasDriven (table_of d) t d.shown.0 d.shown.1 o
   pub workers : IsOfWorkers d.options.workers (table_of d).settings t.history
   pub counts : IfComplete o (AreCounted (table_of d) t)
+  pub once : WithinHistory (missing_texts d.held + 1) d.run.plan t.history d.shown.0 d.shown.1
   pub texts : (env : Elements) → IsLeft d.run env d.shown.0 → HoldsTexts d.run env d.shown.1
   pub done : (env : Elements) → IsLeft d.run env d.shown.0 → HoldsDone d.run env t.state d.shown.1
   pub complete : (env : Elements) → IsLeft d.run env d.shown.0

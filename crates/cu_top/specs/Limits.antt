@@ -1,7 +1,7 @@
 -- How many calls of the depot a run and a run that goes on make at most: until their keys were asked
 -- for, until their first task, and in all. This project's own rules.
 use Rattle.std.specs.Prelude.{ℕ, ◌+◌, ◌*◌, List, length}
-use Rattle.cu_store.specs.Steps.{Shown, OnceEach}
+use Rattle.cu_store.specs.Steps.{Shown}
 use Rattle.cu_op.specs.PlanView.{PlanView}
 use Rattle.cu_work.specs.Drive.{IsTaskMost}
 use Rattle.cu_work.specs.Starts.{most_calls}
@@ -63,8 +63,7 @@ abbrev pub resume_keys : Options → List ℕ → Job → ℕ
 resume_keys o text job = plan_calls 1 text + length (keys_of o job) + 2
 
 -- Beside so many calls there are at most those of the starts that are counted: `m` for each, where no
--- task of the plan reads and writes more chunks. And beside these there is one call for each of so many
--- keys, and one more only where a call failed.
-abbrev pub WithinStarts : ℕ → ℕ → PlanView → RunCounts → Shown → Shown → Type 0
-WithinStarts begun keys p n old new = (m : ℕ) → IsTaskMost p m
-    → WithinCalls (begun + n.starts * m) old new × OnceEach (keys + n.starts * m) old new
+-- task of the plan reads and writes more chunks.
+abbrev pub WithinStarts : ℕ → PlanView → RunCounts → Shown → Shown → Type 0
+WithinStarts begun p n old new =
+    (m : ℕ) → IsTaskMost p m → WithinCalls (begun + n.starts * m) old new

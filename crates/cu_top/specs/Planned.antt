@@ -44,8 +44,8 @@ PlanTells options old new ReadFault = IsReadFault old new
 PlanTells options old new NoMemory = AreSpared old new
 PlanTells options old new status = CameToRun options old new (λ c. Plans c status)
 
--- the calls of planning the text that was read, for each key once and again only where a call failed;
--- where none was, no call was made
+-- the calls of planning the text that was read: one for each key at most, and beyond these no more than
+-- failed; where none was, no call was made
 abbrev pub PlansWithin : ℕ → Stream → Stream → Shown → Shown → Type 0
 PlansWithin tries src next old new =
     WithinCalls 0 old new ⊎ ((text : List ℕ) × ReadsAll src.told next.told text

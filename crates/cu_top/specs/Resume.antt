@@ -20,6 +20,7 @@ use Rattle.cu_table.specs.Table.{undone_among}
 use Rattle.cu_work.specs.Drive.{IsBadChunk, IsInputKey}
 use Rattle.cu_work.specs.Run.{HoldsTexts}
 use Rattle.cu_work.specs.Search.{NamesStored, NamesTask}
+use Rattle.cu_work.specs.Starts.{WithinHistory}
 use Rattle.cu_work.specs.World.{IsFound, IsStored}
 use Rattle.cu_work.specs.declared.find.FindFault.{FindFault}
 use Rattle.cu_work.specs.declared.find.FindFault.TheVariants as find
@@ -121,19 +122,24 @@ pub record AreOfAbsent (c : RunCase) (job : Job) (entry : Contents) (n : RunCoun
 
 -- All tasks are done. Each that wasn't found done was started once, and once more for each failure,
 -- or with second copies at least so often. Where the contents were told, they are those of which a
--- chunk was absent.
-abbrev pub IsCountedOn : RunCase → Job → RunCounts → Type 0
-IsCountedOn c job n = WentOn c job (λ done history m. AllDone (plan_in c job) m × (n ≡ run_counts_in history)
+-- chunk was absent. Beside one call for each of so many keys and those of the tasks that were
+-- started, by the same history, there are no more than failed.
+abbrev pub IsCountedOn : RunCase → Job → ℕ → RunCounts → Type 0
+IsCountedOn c job keys n = WentOn c job (λ done history m. AllDone (plan_in c job) m
+    × (n ≡ run_counts_in history)
+    × WithinHistory keys (plan_in c job) history c.old.depot c.new.depot
     × (n.failures + undone_in done ≤ n.starts) × (c.options.backups ≡ false → n.starts ≡ n.failures + undone_in done))
     × (n.failures ≤ c.options.retries * task_count (plan_in c job))
     × (n.starts ≤ (c.options.retries + 2) * task_count (plan_in c job))
     × ((entry : Contents) → c.old.depot.held ≡ Some entry → AreOfAbsent c job entry n)
 
--- the same, with a fact of the line that reports it; the calls of the tasks are those of the starts
--- that it has, at most; and for any other key there is one call, and one more only where a call failed
+-- The same of all keys of a run that goes on, with a fact of the line that reports it. The calls of
+-- the tasks are at most those of the starts that it has, by the most chunks that a task reads and
+-- writes.
 abbrev pub CountedOn : RunCase → Job → (List ℕ → Type 0) → Type 0
-CountedOn c job fact = (n : RunCounts) × IsCountedOn c job n
-    × WithinStarts (resume_limits c.options c.text job).begun (resume_keys c.options c.text job) (plan_in c job) n c.old.depot c.new.depot
+CountedOn c job fact = (n : RunCounts) × IsCountedOn c job (resume_keys c.options c.text job) n
+    × WithinStarts (resume_limits c.options c.text job).begun (plan_in c job) n
+    c.old.depot c.new.depot
     × fact (report_line (plan_in c job) n)
 
 -- ---- the answers
@@ -219,7 +225,8 @@ IsRestFault tries keys shown (DepotFailed key) = Rose tries shown.0.faults shown
 IsRestFault tries keys shown NoMemory = Unit {0}
 IsRestFault tries keys shown status = ⊥
 
--- what going on comes to: the counts of a run whose output is complete, or what is answered
-abbrev pub ResumeEnded : Bool → RunCase → Job → Result RunCounts Status → Type 0
-ResumeEnded lack c job (Ok n) = IsResumed c job × HoldsAll c job × IsCountedOn c job n
-ResumeEnded lack c job (Err status) = WasResumed lack c status
+-- what going on comes to: the counts of a run whose output is complete and that called for so many
+-- keys beside those of its tasks, or what is answered
+abbrev pub ResumeEnded : Bool → RunCase → Job → ℕ → Result RunCounts Status → Type 0
+ResumeEnded lack c job keys (Ok n) = IsResumed c job × HoldsAll c job × IsCountedOn c job keys n
+ResumeEnded lack c job keys (Err status) = WasResumed lack c status

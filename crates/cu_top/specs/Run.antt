@@ -31,7 +31,7 @@ use Rattle.cu_work.specs.Drive.{IsBadChunk, IsInputKey}
 use Rattle.cu_work.specs.Order.{IsFree}
 use Rattle.cu_work.specs.Run.{HoldsTexts}
 use Rattle.cu_work.specs.Shared.{none_done, HoldsDone}
-use Rattle.cu_work.specs.Starts.{IsOfWorkers}
+use Rattle.cu_work.specs.Starts.{IsOfWorkers, WithinHistory}
 use Rattle.cu_command.specs.Job.{IsJob, IsJobFault}
 use Rattle.cu_command.specs.Seen.{Seen, Stream, Stepped, seen}
 use Rattle.cu_command.specs.Streams.{WroteFront}
@@ -182,16 +182,22 @@ WasRun c job fact = (history : List Entry) × (m : Machine) × IsHistory c job (
 
 -- All tasks are done: these are how often one was started and how often one failed. Each was started
 -- once, and once more for each failure, or with second copies at least so often; at most as often as
--- it is tried, and once more; and it failed at most as often as it is tried again.
-abbrev pub IsCounted : RunCase → Job → RunCounts → Type 0
-IsCounted c job n = WasRun c job (λ history m. AllDone (plan_in c job) m × (n.starts ≡ count_kind is_start history) × (n.failures ≡ count_kind is_failed history))
+-- it is tried, and once more; and it failed at most as often as it is tried again. Beside one call
+-- for each of so many keys and those of the tasks that were started, by the same history, there are
+-- no more than failed.
+abbrev pub IsCounted : RunCase → Job → ℕ → RunCounts → Type 0
+IsCounted c job keys n = WasRun c job (λ history m. AllDone (plan_in c job) m
+    × (n.starts ≡ count_kind is_start history) × (n.failures ≡ count_kind is_failed history)
+    × WithinHistory keys (plan_in c job) history c.old.depot c.new.depot)
     × (task_count (plan_in c job) + n.failures ≤ n.starts) × (c.options.backups ≡ false → n.starts ≡ task_count (plan_in c job) + n.failures)
     × (n.failures ≤ c.options.retries * task_count (plan_in c job)) × (n.starts ≤ (c.options.retries + 2) * task_count (plan_in c job))
 
--- the same, with a fact of the line that reports it; the calls of the tasks are those of the starts that it has, at most;
--- and for any other key there is one call, and one more only where a call failed
+-- The same of all keys of a run, with a fact of the line that reports it. The calls of the tasks
+-- are at most those of the starts that it has, by the most chunks that a task reads and writes.
 abbrev pub Counted : RunCase → Job → (List ℕ → Type 0) → Type 0
-Counted c job fact = (n : RunCounts) × IsCounted c job n × WithinStarts (run_limits c.options c.text job).begun (run_keys c.options c.text job) (plan_in c job) n c.old.depot c.new.depot
+Counted c job fact = (n : RunCounts) × IsCounted c job (run_keys c.options c.text job) n
+    × WithinStarts (run_limits c.options c.text job).begun (plan_in c job) n
+    c.old.depot c.new.depot
     × fact (report_line (plan_in c job) n)
 
 -- the first n bytes of the line were written
@@ -315,10 +321,11 @@ pub record IsCleared (options : Options) (text : List ℕ) (old start : Shown) (
   pub free : (entry : Contents) → old.held ≡ Some entry → All (IsFree entry) (asked_keys options job)
   pub spared : Stepped NoChange old start
 
--- what storing comes to: the counts of a run whose output is complete, or what the run answers
-abbrev pub Ended : Bool → RunCase → Job → Result RunCounts Status → Type 0
-Ended lack c job (Ok n) = IsStarted c job × HoldsAll c job × IsCounted c job n
-Ended lack c job (Err status) = Ran lack c status
+-- what storing comes to: the counts of a run whose output is complete and that called for so many
+-- keys beside those of its tasks, or what the run answers
+abbrev pub Ended : Bool → RunCase → Job → ℕ → Result RunCounts Status → Type 0
+Ended lack c job keys (Ok n) = IsStarted c job × HoldsAll c job × IsCounted c job keys n
+Ended lack c job keys (Err status) = Ran lack c status
 
 -- the answers of a run that was started and isn't complete
 abbrev pub IsStop : Status → Type 0

@@ -151,7 +151,7 @@ pub fn drive_plan<H: Threads + Wait + Sync, D: Share, G: Gate>(
     ensures calls { IfOk result (λ counts. DriveWithin options.now ready.now.job held
         (D.shown depot.old) (D.shown depot.new) Done) }
     ensures starts { IfOk result (λ counts. WithinStarts ((missing_texts held + 1) * (options.now.retries + 1))
-        (missing_texts held + 1) (job_plan options.now ready.now.job) counts (D.shown depot.old) (D.shown depot.new)) }
+        (job_plan options.now ready.now.job) counts (D.shown depot.old) (D.shown depot.new)) }
     ensures stopped_calls { IfErr result (DriveWithin options.now ready.now.job held
         (D.shown depot.old) (D.shown depot.new)) }
 {

@@ -111,14 +111,16 @@ fn go_on<H: Threads + Wait + Sync, D: Share, G: Gate>(
     requires ready { HasPlanAndTexts options.now ready.now }
     requires left { (text : List ℕ) × (old : Shown)
         × IsFoundAgain options.now text old (D.shown depot.old) ready.now.job × IsLeftEntry options.now text old }
-    ensures ended { (text : List ℕ) (old : Shown) (source next sink after : Stream)
+    ensures ended { (text : List ℕ) (old : Shown) (source next sink after : Stream) (before : ℕ)
         → IsFoundAgain options.now text old (D.shown depot.old) ready.now.job → IsLeftEntry options.now text old
+        → OnceEach before old (D.shown depot.old)
         → ResumeEnded (D.yards_lack depot.new) (case options.now text (scene source sink old)
-        (scene next after (D.shown depot.new))) ready.now.job result }
+        (scene next after (D.shown depot.new))) ready.now.job
+        (before + length (keys_of options.now ready.now.job) + 1) result }
     ensures calls { IfOk result (λ counts. GoneOnWithin options.now ready.now.job
         (D.shown depot.old) (D.shown depot.new) Done) }
     ensures starts { IfOk result (λ counts. WithinStarts ((length (keys_of options.now ready.now.job) + 1) * (options.now.retries + 1))
-        (length (keys_of options.now ready.now.job) + 1) (job_plan options.now ready.now.job) counts (D.shown depot.old) (D.shown depot.new)) }
+        (job_plan options.now ready.now.job) counts (D.shown depot.old) (D.shown depot.new)) }
     ensures stopped_calls { IfErr result (GoneOnWithin options.now ready.now.job
         (D.shown depot.old) (D.shown depot.new)) }
 {

@@ -1,6 +1,6 @@
 //! A run: what is stored, once the job was accepted and nothing is in the way.
 ghost use Rattle.std.specs.Prelude.{ℕ, ◌+◌, ◌*◌, List, IfErr, IfOk};
-ghost use Rattle.cu_store.specs.Steps.{Shown};
+ghost use Rattle.cu_store.specs.Steps.{OnceEach, Shown};
 ghost use Rattle.cu_command.specs.Seen.{Stream, stream};
 ghost use Rattle.cu_command.specs.declared.status.Status.TheVariants.{Done};
 ghost use Rattle.cu_work.specs.declared.run.HeldTexts.TheVariants.{Neither};
@@ -41,15 +41,16 @@ pub fn store_plan<H: Threads + Wait + Sync, D: Share, G: Gate>(
     requires ready { HasPlanAndTexts options.now ready.now }
     requires quiet { (text : List ℕ) × (old : Shown)
         × IsCleared options.now text old (D.shown depot.old) ready.now.job × IsCalm options.now text old }
-    ensures ended { (text : List ℕ) (old : Shown) (source next sink after : Stream)
+    ensures ended { (text : List ℕ) (old : Shown) (source next sink after : Stream) (before : ℕ)
         → IsCleared options.now text old (D.shown depot.old) ready.now.job
+        → OnceEach before old (D.shown depot.old)
         → Ended (D.yards_lack depot.new) (case options.now text (scene source sink old)
-        (scene next after (D.shown depot.new))) ready.now.job result }
+        (scene next after (D.shown depot.new))) ready.now.job (before + 3) result }
     ensures stopped { IfErr result IsStop }
     ensures calls { IfOk result (λ counts. DriveWithin options.now ready.now.job Neither
         (D.shown depot.old) (D.shown depot.new) Done) }
     ensures starts { IfOk result (λ counts. WithinStarts (3 * (options.now.retries + 1))
-        3 (job_plan options.now ready.now.job) counts (D.shown depot.old) (D.shown depot.new)) }
+        (job_plan options.now ready.now.job) counts (D.shown depot.old) (D.shown depot.new)) }
     ensures stopped_calls { IfErr result (DriveWithin options.now ready.now.job Neither
         (D.shown depot.old) (D.shown depot.new)) }
 {

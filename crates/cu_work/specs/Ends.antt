@@ -8,7 +8,8 @@ abbrev pub NoneOf : List (List ℕ) → Changes
 NoneOf keys = NoChange
 
 -- The calls for this key ended in a fault of the store, each of them failed or the store lacks memory, and changed nothing. Those before it were called
--- for, each at least once, which changed what W says of them. Each was called for again only where a call failed.
+-- for, each at least once, which changed what W says of them. Beside one call a key there were no more
+-- than failed.
 pub record EndsAt (W : List (List ℕ) → Changes) (tries : ℕ) (keys : List (List ℕ)) (shown : Shown × Shown) (key : List ℕ) (fault : DepotFault) : Type 0 where
   pub front : List (List ℕ)
   pub back : List (List ℕ)

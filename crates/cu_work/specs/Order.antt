@@ -45,8 +45,9 @@ IsWayFault tries old new (Held key) = IsHeldIn new.held key
 IsWayFault tries old new (Failed key) = Rose tries old.faults new.faults
 IsWayFault tries old new NoMemory = IsTrue new.lacks
 
--- Keys were asked for, each at most `tries` times, and again only where a call failed. Where all were free, nothing was held under them at first; else the key at which asking
--- ended is the first of which that isn't known.
+-- Keys were asked for, each at most `tries` times; beside one call a key there were no more than failed.
+-- Where all were free, nothing was held under them at first; else the key at which asking ended is the
+-- first of which that isn't known.
 pub record IsAsked (tries : ℕ) (old new : Shown) (keys : List (List ℕ)) (result : Result (Unit {0}) WayFault) : Type 0 where
   pub step : Steps NoChange 0 (tries * length keys) old new
   pub once : OnceEach (length keys) old new

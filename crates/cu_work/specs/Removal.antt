@@ -38,7 +38,8 @@ abbrev pub IsRemoveFault : ℕ → List (List ℕ) → Shown × Shown → Remove
 IsRemoveFault tries keys shown (Failed key) = StopsAt tries keys shown key depot.Failed
 IsRemoveFault tries keys shown NoMemory = (key : List ℕ) × StopsAt tries keys shown key depot.NoMemory
 
--- Keys were removed, each by at most `tries` calls, by another only where one failed, and by one at least where all were.
+-- Keys were removed, each by at most `tries` calls, and by one at least where all were; beside one call
+-- a key there were no more than failed.
 pub record AreRemoved (tries : ℕ) (keys : List (List ℕ)) (old new : Shown) (result : Result (Unit {0}) RemoveFault) : Type 0 where
   pub step : Steps (RemovalIn keys) 0 (tries * length keys) old new
   pub once : OnceEach (length keys) old new

@@ -19,7 +19,7 @@ task_bytes p k =
 abbrev pub task_words : PlanView → ℕ → ℕ
 task_words p k = 64 * steps_within p k
 
--- how many bytes and words there are
+-- how many bytes and words are taken
 pub record RoomSizes : Type 0 where
   pub bytes : ℕ
   pub words : ℕ

@@ -33,8 +33,9 @@ abbrev pub IsSearchFault : ℕ → List (List ℕ) → Shown × Shown → FindFa
 IsSearchFault tries keys shown (Failed key) = EndsAt NoneOf tries keys shown key depot.Failed
 IsSearchFault tries keys shown NoMemory = (key : List ℕ) × EndsAt NoneOf tries keys shown key depot.NoMemory
 
--- Keys were asked for, each at least once and at most `tries` times, and again only where a call failed: all are held afterwards where the answer is yes, and it is yes where all
--- were held before.
+-- Keys were asked for, each at least once and at most `tries` times; beside one call a key there were no
+-- more than failed. All are held afterwards where the answer is yes, and it is yes where all were held
+-- before.
 pub record AreAsked (tries : ℕ) (keys : List (List ℕ)) (old new : Shown) (all : Bool) : Type 0 where
   pub step : Steps NoChange (length keys) (tries * length keys) old new
   pub once : OnceEach (length keys) old new

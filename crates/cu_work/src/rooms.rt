@@ -8,8 +8,8 @@ use std::alloc::Global;
 use std::marker::Model;
 use std::mem;
 
-/// The memory of one worker: the most bytes and the most words that any task of a plan is lent. It is seen as how many are taken
-/// of each. Of those none is written before a task is lent it.
+/// The memory of one worker: the most bytes and the most words that any task of a plan is lent. It is
+/// seen as how many are taken of each.
 #[derive(Drop)]
 pub struct Rooms {
     pub(crate) bytes: Vec<u8>,
@@ -52,7 +52,7 @@ pub(crate) fn write_zeros<T: Copy + Drop>(items: &mut Vec<T>, zero: T, count: us
     ensures many { count ≤ vec_len items.new }
     ensures taken { vec_capacity items.new ≡ vec_capacity items.old }
 {
-    // Out of the reference, behind which the length would be stored after each item.
+    // Taken out of the reference: through it the length would be stored after each item.
     let none = Vec::new(*items.allocator());
     let mut filled = mem::replace(items, none);
     while filled.len() < count {

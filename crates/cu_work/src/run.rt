@@ -12,7 +12,7 @@ ghost use Rattle.cu_work.specs.Calls.{missing_texts};
 ghost use Rattle.cu_work.specs.declared.run.HeldTexts.TheVariants.{Neither};
 ghost use Rattle.cu_work.specs.Run.{run_of, share_fault, PutOfText, PutOfMissing, AreTextsHeld, IsRecordFirst, HoldsTexts, IsRunFault, IsTextPutFault, IsUnstored};
 ghost use Rattle.cu_work.specs.Shared.{IsOpen, IsMemoryFor, HasDriven, HoldsDone, AreCounted, IfBadChunk, IfComplete, IfLacked};
-ghost use Rattle.cu_work.specs.Starts.{IsOfWorkers, most_calls};
+ghost use Rattle.cu_work.specs.Starts.{IsOfWorkers, WithinHistory, most_calls};
 ghost use Rattle.cu_work.specs.World.{IsFound};
 
 use crate::memory::RunMemory;
@@ -184,8 +184,8 @@ pub fn run_plan<H: Threads + Wait + Sync, D: Share, G: Gate>(
     ensures workers { IfOk result (λ end. IsOfWorkers options.now.workers memory.table.settings end.table.history) }
     ensures tries { (m : ℕ) → IsTaskMost plan.now m → IfOk result (λ end. (D.shown depot.new).calls
         ≤ (D.shown depot.old).calls + (missing_texts held + 1) * (options.now.retries + 1) + count_kind is_start end.table.history * m) }
-    ensures once { (m : ℕ) → IsTaskMost plan.now m
-        → IfOk result (λ end. OnceEach (missing_texts held + 1 + count_kind is_start end.table.history * m) (D.shown depot.old) (D.shown depot.new)) }
+    ensures once { IfOk result (λ end. WithinHistory (missing_texts held + 1) plan.now
+        end.table.history (D.shown depot.old) (D.shown depot.new)) }
     ensures begun_once { OnErr result (OnceEach (missing_texts held + 1) (D.shown depot.old) (D.shown depot.new)) }
     ensures begun { OnErr result ((D.shown depot.new).calls ≤ (D.shown depot.old).calls + (missing_texts held + 1) * (options.now.retries + 1)) }
     ensures calls { (D.shown depot.new).calls

@@ -10,7 +10,7 @@ ghost use Rattle.cu_run_law.specs.Left.{IsLeft, RunChange};
 ghost use Rattle.cu_run_law.specs.Pieces.{chunks_alone, KeysApart, InputsApart};
 ghost use Rattle.cu_work.specs.Drive.{IsBadChunk, IsInputKey, IsTaskMost};
 ghost use Rattle.cu_work.specs.Shared.{promised_writes, IsOpen, IsMemoryFor, HasDriven, HoldsDone, AreCounted, IfBadChunk, IfComplete, IfLacked};
-ghost use Rattle.cu_work.specs.Starts.{IsOfWorkers, most_calls};
+ghost use Rattle.cu_work.specs.Starts.{IsOfWorkers, WithinHistory, most_calls};
 ghost use Rattle.cu_work.specs.World.{IsFound};
 
 use crate::memory::RunMemory;
@@ -54,8 +54,8 @@ fn run_promised<K: Promised, H: Threads + Wait + Sync, D: Share, G: Gate>(
     ensures workers { IfOk result (λ end. IsOfWorkers options.now.workers memory.table.settings end.table.history) }
     ensures tries { (m : ℕ) → IsTaskMost plan.now m → IfOk result (λ end. (D.shown depot.new).calls
         ≤ (D.shown depot.old).calls + (options.now.retries + 1) + count_kind is_start end.table.history * m) }
-    ensures once { (m : ℕ) → IsTaskMost plan.now m
-        → IfOk result (λ end. OnceEach (1 + count_kind is_start end.table.history * m) (D.shown depot.old) (D.shown depot.new)) }
+    ensures once { IfOk result (λ end. WithinHistory 1 plan.now end.table.history
+        (D.shown depot.old) (D.shown depot.new)) }
     ensures begun_once { OnErr result (OnceEach 1 (D.shown depot.old) (D.shown depot.new)) }
     ensures calls { (D.shown depot.new).calls
         ≤ (D.shown depot.old).calls + (options.now.retries + 1) + most_calls options.now plan.now }
@@ -120,8 +120,8 @@ pub fn run_tasks<H: Threads + Wait + Sync, D: Share, G: Gate>(
     ensures workers { IfOk result (λ end. IsOfWorkers options.now.workers memory.table.settings end.table.history) }
     ensures tries { (m : ℕ) → IsTaskMost plan.now m → IfOk result (λ end. (D.shown depot.new).calls
         ≤ (D.shown depot.old).calls + (options.now.retries + 1) + count_kind is_start end.table.history * m) }
-    ensures once { (m : ℕ) → IsTaskMost plan.now m
-        → IfOk result (λ end. OnceEach (1 + count_kind is_start end.table.history * m) (D.shown depot.old) (D.shown depot.new)) }
+    ensures once { IfOk result (λ end. WithinHistory 1 plan.now end.table.history
+        (D.shown depot.old) (D.shown depot.new)) }
     ensures begun_once { OnErr result (OnceEach 1 (D.shown depot.old) (D.shown depot.new)) }
     ensures calls { (D.shown depot.new).calls
         ≤ (D.shown depot.old).calls + (options.now.retries + 1) + most_calls options.now plan.now }

@@ -1,6 +1,7 @@
 use Rattle.std.proofs.Common.{◌≡◌, ◌+◌, ◌*◌, ◌++◌, ℤ, All, None, length, refl, subst, sym, arith}
 use Rattle.cu_op.specs.PlanView.{PlanView}
 use Rattle.cu_store.specs.Steps.{OnceEach}
+use Rattle.cu_store.proofs.Once.{once_then}
 use Rattle.cu_command.specs.Seen.{WithinCalls, seen, stream}
 use Rattle.cu_command.proofs.SeenLemmas.{stepped_none, stepped_then}
 use Rattle.cu_command.specs.declared.job.Job.{Job}
@@ -115,25 +116,26 @@ returns-in-Ok-store_plan g c =
     } in
     let found = found_of old start in
     let seen_by = demo_case options n (seen before old) (seen after now) in
+    let asked_each = subst (λ (j : Job). OnceEach (6 + length (asked_keys options j)) old mid) (sym same) (c.ask_demo.ensures.once options c.in-Ok.ensures.plan) in
     let begun : IsDemoStarted seen_by job found = record {
       accepted = way.accepted;
       inputs = way.inputs;
       keys = way.free;
       entry = way_found options n job old mid start way;
+      once = once_then (6 + length (asked_keys options job)) _ old mid found asked_each c.store_inputs.ensures.once;
     } in
     let law : MeantLaw options job found = λ entry shown left complete.
     meant (run_to options found shown) job way.planned c.merged_plan_law.ensures.inputs c.merged_plan_law.ensures.output c.merged_plan_law.ensures.equal c.complete_law.ensures.elements
     entry shown left complete in
-    let ended = c.in-Ok-store_plan.ensures.ended demo_text found (stream None 0) (stream None 0) (stream None 0) (stream None 0) (way_cleared options n job old mid start way) in
+    let ended = c.in-Ok-store_plan.ensures.ended demo_text found (stream None 0) (stream None 0) (stream None 0) (stream None 0) 0 (way_cleared options n job old mid start way) (omega arith) in
     let asked_calls = subst (λ (j : Job). WithinCalls ((6 + length (asked_keys options j)) * (options.retries + 1)) old mid) (sym same) (c.ask_demo.ensures.calls options c.in-Ok.ensures.plan) in
-    let asked_each = subst (λ (j : Job). OnceEach (6 + length (asked_keys options j)) old mid) (sym same) (c.ask_demo.ensures.once options c.in-Ok.ensures.plan) in
     let asked_count = c.ask_demo.ensures.step.step.count in
     let stored_count = c.store_inputs.ensures.step.step.count in
     let run_count = ended.0.step.step.count in
     record {
       answer = told lack seen_by job found ran counts begun (way_calm options n job old mid start way) law ended c.tell_result.ensures.step (omega (arith, asked_count, stored_count, run_count)) (λ other s. way_keeps options n job old mid start way now other s)
-          (demo_starts seen_by job way.accepted counts mid start ran asked_calls asked_each c.store_inputs.ensures.calls c.store_inputs.ensures.once c.in-Ok-store_plan.ensures.starts c.tell_result.ensures.calls
-          c.tell_result.ensures.once)
+          (demo_starts seen_by job way.accepted counts mid start ran asked_calls c.store_inputs.ensures.calls c.in-Ok-store_plan.ensures.starts c.tell_result.ensures.calls)
+          c.tell_result.ensures.once
           c.tell_result.result
           (subst (λ (p : PlanView). ResultTells (options.retries + 1) (λ (x : ℤ). result_line n x ++ report_line p counts) (seen before ran) (seen after now) c.tell_result.result) c.in-Ok-make_ready.ensures.ready.plan_is
           c.tell_result.ensures.answer);
@@ -174,16 +176,18 @@ returns g c =
     } in
     let found = found_of old start in
     let seen_by = demo_case options n (seen out old) (seen out now) in
+    let asked_each = subst (λ (j : Job). OnceEach (6 + length (asked_keys options j)) old mid) (sym same) (c.ask_demo.ensures.once options c.in-Ok.ensures.plan) in
     let begun : IsDemoStarted seen_by job found = record {
       accepted = way.accepted;
       inputs = way.inputs;
       keys = way.free;
       entry = way_found options n job old mid start way;
+      once = once_then (6 + length (asked_keys options job)) _ old mid found asked_each c.store_inputs.ensures.once;
     } in
     let asked_calls = subst (λ (j : Job). WithinCalls ((6 + length (asked_keys options j)) * (options.retries + 1)) old mid) (sym same) (c.ask_demo.ensures.calls options c.in-Ok.ensures.plan) in
     record {
       answer = stopped lack seen_by found (way_calm options n job old mid start way) (way_whole options n job old mid start way) job c.in-Err-store_plan.status refl begun (λ other s. way_keeps options n job old mid start way now other s) c.in-Err-store_plan.ensures.stopped
-          (c.in-Err-store_plan.ensures.ended demo_text found (stream None 0) (stream None 0) (stream None 0) (stream None 0) (way_cleared options n job old mid start way));
+          (c.in-Err-store_plan.ensures.ended demo_text found (stream None 0) (stream None 0) (stream None 0) (stream None 0) 0 (way_cleared options n job old mid start way) (omega arith));
       calls = demo_stopped seen_by job way.accepted mid asked_calls start c.store_inputs.ensures.calls c.in-Err-store_plan.status c.in-Err-store_plan.ensures.stopped_calls;
     }
 

@@ -79,6 +79,7 @@ returns-clause-driven g c =
       driven = c.run_plan-ended.ensures.driven;
       workers = c.run_plan-ended.ensures.workers;
       counts = c.run_plan-ended.ensures.counts;
+      once = c.run_plan-ended.ensures.once;
       done = c.run_plan-ended.ensures.done;
       complete = c.run_plan-ended.ensures.complete;
       bad = c.run_plan-ended.ensures.bad;
@@ -97,7 +98,7 @@ returns-clause-calls g c =
     let p = c.args.ready.now.plan in
     let old = g.D.Depot.shown c.args.depot.now in
     let new = g.D.Depot.shown c.run_plan-ended.new.depot in
-    let made : RunMakes c.run_options-how.result p c.args.held old new c.run_plan-ended.result = record { begun = c.run_plan-ended.ensures.begun; all = c.run_plan-ended.ensures.calls; starts = c.run_plan-ended.ensures.tries; once = c.run_plan-ended.ensures.once } in
+    let made : RunMakes c.run_options-how.result p c.args.held old new c.run_plan-ended.result = record { begun = c.run_plan-ended.ensures.begun; all = c.run_plan-ended.ensures.calls; starts = c.run_plan-ended.ensures.tries } in
     any_ok c.drive_answer.result _ (drive_all o job c.args.held old new c.run_options-how.result p c.run_plan-ended.result c.run_options-how.ensures c.requires.ready.plan_is made)
 
 pub returns-clause-stopped_calls : goal.returns-clause-stopped_calls
@@ -107,7 +108,7 @@ returns-clause-stopped_calls g c =
     let p = c.args.ready.now.plan in
     let old = g.D.Depot.shown c.args.depot.now in
     let new = g.D.Depot.shown c.run_plan-ended.new.depot in
-    let made : RunMakes c.run_options-how.result p c.args.held old new c.run_plan-ended.result = record { begun = c.run_plan-ended.ensures.begun; all = c.run_plan-ended.ensures.calls; starts = c.run_plan-ended.ensures.tries; once = c.run_plan-ended.ensures.once } in
+    let made : RunMakes c.run_options-how.result p c.args.held old new c.run_plan-ended.result = record { begun = c.run_plan-ended.ensures.begun; all = c.run_plan-ended.ensures.calls; starts = c.run_plan-ended.ensures.tries } in
     drive_stopped o job c.args.held old new c.run_options-how.result p _ c.run_plan-ended.result c.drive_answer.result c.run_options-how.ensures c.requires.ready.plan_is c.drive_answer.ensures made
 
 pub returns-clause-starts : goal.returns-clause-starts
@@ -117,5 +118,5 @@ returns-clause-starts g c =
     let p = c.args.ready.now.plan in
     let old = g.D.Depot.shown c.args.depot.now in
     let new = g.D.Depot.shown c.run_plan-ended.new.depot in
-    let made : RunMakes c.run_options-how.result p c.args.held old new c.run_plan-ended.result = record { begun = c.run_plan-ended.ensures.begun; all = c.run_plan-ended.ensures.calls; starts = c.run_plan-ended.ensures.tries; once = c.run_plan-ended.ensures.once } in
+    let made : RunMakes c.run_options-how.result p c.args.held old new c.run_plan-ended.result = record { begun = c.run_plan-ended.ensures.begun; all = c.run_plan-ended.ensures.calls; starts = c.run_plan-ended.ensures.tries } in
     drive_starts o job c.args.held old new c.run_options-how.result p _ c.run_plan-ended.result c.drive_answer.result c.run_options-how.ensures c.requires.ready.plan_is c.drive_answer.ensures made

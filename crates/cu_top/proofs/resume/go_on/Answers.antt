@@ -1,4 +1,8 @@
-use Rattle.std.proofs.Common.{None, subst, sym, arith, Result}
+use Rattle.std.proofs.Common.{ℕ, ◌+◌, None, subst, sym, arith, Result, length}
+use Rattle.cu_op.specs.PlanView.{PlanView}
+use Rattle.cu_store.specs.Steps.{OnceEach}
+use Rattle.cu_store.proofs.Once.{once_then}
+use Rattle.cu_work.specs.Order.{plan_keys}
 use Rattle.cu_command.specs.Seen.{stream}
 use Rattle.cu_command.specs.declared.status.Status.{Status}
 use Rattle.cu_command.proofs.SeenLemmas.{stepped_then}
@@ -8,7 +12,7 @@ use Rattle.cu_load.proofs.AskLemmas.{if_err}
 use Rattle.cu_top.proofs.CallLimits.{if_ok, rest_driven, rest_starts, rest_stopped}
 use Rattle.cu_top.proofs.PlanLemmas.{meant}
 use Rattle.cu_top.proofs.ReopenLemmas.{ResumeLaws, opens, reopened, record_in, rest_refused, resume_ended, names_later}
-use Rattle.cu_top.specs.Prepare.{keys_of, out_metadata}
+use Rattle.cu_top.specs.Prepare.{job_plan, keys_of, out_metadata}
 use Rattle.cu_top.specs.Record.{record_text}
 use Rattle.cu_top.specs.Resume.{ResumeEnded}
 use Rattle.cu_top.specs.Run.{scene, case, plan_in}
@@ -23,7 +27,7 @@ find_rest-requires-clause-known g c =
 
 pub returns-in-Err : goal.returns-in-Err
 returns-in-Err g c = record {
-  ended = λ text old source next sink after found premise.
+  ended = λ text old source next sink after before found premise asked.
       let options = c.args.options.now in
       let run = case options text (scene source sink old) (scene next after (g.D.Depot.shown c.find_rest.new.depot)) in
       let job = c.args.ready.now.job in
@@ -113,7 +117,7 @@ drive_plan-requires-clause-open g c κs within =
 
 pub returns : goal.returns
 returns g c = record {
-  ended = λ text old source next sink after found premise.
+  ended = λ text old source next sink after before found premise asked.
       let start = g.D.Depot.shown c.args.depot.now in
       let now = g.D.Depot.shown c.find_rest.new.depot in
       let new = g.D.Depot.shown c.drive_plan.new.depot in
@@ -148,15 +152,19 @@ returns g c = record {
       let done = c.in-Ok.rest.memory.table.done in
       let back = reopened run job start found laws in
       let (result, driven, answer) = c.drive_plan.ensures.driven in
-      subst (λ (r : Result RunCounts Status). ResumeEnded lack run job r) (sym answer)
-      (resume_ended run job laws now spared back (opens run job start found premise) c.in-Ok.rest.held c.in-Ok.ensures.has done lack goes histories c.in-Ok.ensures.texts c.in-Ok.ensures.found
-      (names_later (plan_in run job) old start done found.spared c.in-Ok.ensures.named) result driven);
+      let once = once_then before (1 + length (plan_keys (job_plan options job) (length (job_plan options job).ops))) old start now asked
+      (subst (λ (p : PlanView). OnceEach (1 + length (plan_keys p (length p.ops))) start now) c.requires.ready.plan_is c.find_rest.ensures.once) in
+      subst (λ (keys : ℕ). ResumeEnded lack run job keys c.drive_plan.result) (omega arith)
+      (subst (λ (r : Result RunCounts Status). ResumeEnded lack run job (before + (1 + length (plan_keys (job_plan options job) (length (job_plan options job).ops))) + 2) r) (sym answer)
+      (resume_ended run job laws now spared back (opens run job start found premise) c.in-Ok.rest.held c.in-Ok.ensures.has done lack goes histories
+      (before + (1 + length (plan_keys (job_plan options job) (length (job_plan options job).ops)))) once c.in-Ok.ensures.texts c.in-Ok.ensures.found
+      (names_later (plan_in run job) old start done found.spared c.in-Ok.ensures.named) result driven));
   calls = if_ok c.drive_plan.result
       (λ counts. rest_driven c.args.options.now c.args.ready.now.job c.args.ready.now.plan (g.D.Depot.shown c.args.depot.now) (g.D.Depot.shown c.find_rest.new.depot) (g.D.Depot.shown c.drive_plan.new.depot)
       c.requires.ready.plan_is c.find_rest.ensures.calls c.in-Ok.rest.held c.in-Ok.ensures.has Done) c.drive_plan.ensures.calls;
   starts = if_ok c.drive_plan.result
       (λ counts. rest_starts c.args.options.now c.args.ready.now.job c.args.ready.now.plan counts (g.D.Depot.shown c.args.depot.now) (g.D.Depot.shown c.find_rest.new.depot)
-      (g.D.Depot.shown c.drive_plan.new.depot) c.requires.ready.plan_is c.find_rest.ensures.calls c.find_rest.ensures.once c.in-Ok.rest.held c.in-Ok.ensures.has) c.drive_plan.ensures.starts;
+      (g.D.Depot.shown c.drive_plan.new.depot) c.requires.ready.plan_is c.find_rest.ensures.calls c.in-Ok.rest.held c.in-Ok.ensures.has) c.drive_plan.ensures.starts;
   stopped_calls = if_err c.drive_plan.result
       (rest_driven c.args.options.now c.args.ready.now.job c.args.ready.now.plan (g.D.Depot.shown c.args.depot.now) (g.D.Depot.shown c.find_rest.new.depot) (g.D.Depot.shown c.drive_plan.new.depot)
       c.requires.ready.plan_is c.find_rest.ensures.calls c.in-Ok.rest.held c.in-Ok.ensures.has) c.drive_plan.ensures.stopped_calls;

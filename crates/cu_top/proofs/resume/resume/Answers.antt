@@ -1,11 +1,12 @@
-use Rattle.std.proofs.Common.{ℕ, ◌+◌, ◌*◌, ◌≤◌, length, subst, arith}
+use Rattle.std.proofs.Common.{ℕ, ◌+◌, ◌*◌, ◌≤◌, Ok, length, subst, arith}
 use Rattle.cu_command.specs.Seen.{stream}
 use Rattle.cu_command.specs.Streams.{WroteFront}
 use Rattle.cu_op.specs.PlanView.{PlanView}
 use Rattle.cu_top.proofs.ReopenLemmas.{not_reopened, resume_done, resume_unreported}
-use Rattle.cu_top.specs.Limits.{plan_calls, resume_keys, resume_limits}
+use Rattle.cu_top.specs.Limits.{plan_calls, resume_limits}
 use Rattle.cu_top.specs.Prepare.{job_plan, keys_of}
 use Rattle.cu_top.specs.Report.{report_line}
+use Rattle.cu_top.specs.Resume.{ResumeEnded}
 use Rattle.cu_top.specs.Run.{scene, case}
 use Rattle.cu_command.specs.declared.status.Status.TheVariants.{Done, WriteFault}
 use Rattle.cu_top.proofs.CallLimits.{resume_refused, resume_within, starts_then}
@@ -29,11 +30,11 @@ returns-in-Ok-report-clause-answer g c = λ source next.
     let after = stream (g.W.Sink.written c.report.new.out) (g.W.Sink.faults c.report.new.out) in
     let counts = c.in-Ok-go_on.counts in
     resume_done (g.D.Share.yards_lack c.go_on.new.depot) (case c.args.options.now c.args.text.now (scene source out start) (scene next after now)) c.in-Ok.ready.job counts
-    (c.in-Ok-go_on.ensures.ended c.args.text.now start source next out after c.in-Ok.ensures.found c.requires.left)
+    (subst (λ (keys : ℕ). ResumeEnded (g.D.Share.yards_lack c.go_on.new.depot) (case c.args.options.now c.args.text.now (scene source out start) (scene next after now)) c.in-Ok.ready.job keys (Ok counts))
+    (omega arith) (c.in-Ok-go_on.ensures.ended c.args.text.now start source next out after (plan_calls 1 c.args.text.now + 1) c.in-Ok.ensures.found c.requires.left c.reopen.ensures.once))
     (starts_then (plan_calls (c.args.options.now.retries + 1) c.args.text.now + (c.args.options.now.retries + 1))
     ((length (keys_of c.args.options.now c.in-Ok.ready.job) + 1) * (c.args.options.now.retries + 1)) (resume_limits c.args.options.now c.args.text.now c.in-Ok.ready.job).begun
-    (plan_calls 1 c.args.text.now + 1) (length (keys_of c.args.options.now c.in-Ok.ready.job) + 1) (resume_keys c.args.options.now c.args.text.now c.in-Ok.ready.job)
-    (job_plan c.args.options.now c.in-Ok.ready.job) counts start (g.D.Depot.shown c.reopen.new.depot) now c.reopen.ensures.calls (omega arith) c.reopen.ensures.once (omega arith)
+    (job_plan c.args.options.now c.in-Ok.ready.job) counts start (g.D.Depot.shown c.reopen.new.depot) now c.reopen.ensures.calls (omega arith)
     c.in-Ok-go_on.ensures.starts)
     (subst (λ (p : PlanView). WroteFront out.told after.told (report_line p counts) (length (report_line p counts))) c.in-Ok.ensures.ready.plan_is c.in-Ok-report.ensures.all)
 
@@ -45,11 +46,11 @@ returns-in-Ok-go_on-clause-answer g c = λ source next.
     let after = stream (g.W.Sink.written c.report.new.out) (g.W.Sink.faults c.report.new.out) in
     let counts = c.in-Ok-go_on.counts in
     resume_unreported (g.D.Share.yards_lack c.go_on.new.depot) (case c.args.options.now c.args.text.now (scene source out start) (scene next after now)) c.in-Ok.ready.job counts
-    (c.in-Ok-go_on.ensures.ended c.args.text.now start source next out after c.in-Ok.ensures.found c.requires.left)
+    (subst (λ (keys : ℕ). ResumeEnded (g.D.Share.yards_lack c.go_on.new.depot) (case c.args.options.now c.args.text.now (scene source out start) (scene next after now)) c.in-Ok.ready.job keys (Ok counts))
+    (omega arith) (c.in-Ok-go_on.ensures.ended c.args.text.now start source next out after (plan_calls 1 c.args.text.now + 1) c.in-Ok.ensures.found c.requires.left c.reopen.ensures.once))
     (starts_then (plan_calls (c.args.options.now.retries + 1) c.args.text.now + (c.args.options.now.retries + 1))
     ((length (keys_of c.args.options.now c.in-Ok.ready.job) + 1) * (c.args.options.now.retries + 1)) (resume_limits c.args.options.now c.args.text.now c.in-Ok.ready.job).begun
-    (plan_calls 1 c.args.text.now + 1) (length (keys_of c.args.options.now c.in-Ok.ready.job) + 1) (resume_keys c.args.options.now c.args.text.now c.in-Ok.ready.job)
-    (job_plan c.args.options.now c.in-Ok.ready.job) counts start (g.D.Depot.shown c.reopen.new.depot) now c.reopen.ensures.calls (omega arith) c.reopen.ensures.once (omega arith)
+    (job_plan c.args.options.now c.in-Ok.ready.job) counts start (g.D.Depot.shown c.reopen.new.depot) now c.reopen.ensures.calls (omega arith)
     c.in-Ok-go_on.ensures.starts) c.in-Err-report.ensures.cause
     (subst (λ (p : PlanView). (n : ℕ) × (n ≤ length (report_line p counts)) × WroteFront out.told after.told (report_line p counts) n) c.in-Ok.ensures.ready.plan_is
     c.in-Err-report.ensures.front)
@@ -80,4 +81,4 @@ returns-clause-calls g c = λ source next sink after.
 pub returns-clause-answer : goal.returns-clause-answer
 returns-clause-answer g c = λ source next.
     let out = stream (g.W.Sink.written c.args.out.now) (g.W.Sink.faults c.args.out.now) in
-    c.in-Err-go_on.ensures.ended c.args.text.now (g.D.Depot.shown c.args.depot.now) source next out out c.in-Ok.ensures.found c.requires.left
+    c.in-Err-go_on.ensures.ended c.args.text.now (g.D.Depot.shown c.args.depot.now) source next out out (plan_calls 1 c.args.text.now + 1) c.in-Ok.ensures.found c.requires.left c.reopen.ensures.once

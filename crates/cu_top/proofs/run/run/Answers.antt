@@ -10,7 +10,7 @@ use Rattle.cu_command.specs.Seen.{WithinCalls}
 use Rattle.cu_command.specs.declared.status.Status.TheVariants.{Done, WriteFault}
 use Rattle.cu_top.proofs.CallLimits.{asked_within, run_within, starts_then}
 use Rattle.cu_top.specs.Calls.{run_limits}
-use Rattle.cu_top.specs.Limits.{plan_calls, run_keys}
+use Rattle.cu_top.specs.Limits.{plan_calls}
 use Rattle.cu_top.specs.Prepare.{asked_keys, job_plan}
 use Rattle.cu_store.specs.Steps.{OnceEach}
 use Rattle.cu_work.specs.declared.way.WayFault.TheVariants as way
@@ -36,14 +36,12 @@ returns-in-Ok-report-clause-answer g c = λ source next.
     let job = c.in-Ok-make_ready.ready.job in
     let counts = c.in-Ok-store_plan.counts in
     let cleared = subst (λ (j : Job). IsCleared c.args.options.now c.args.text.now start (g.D.Depot.shown c.prepare.new.depot) j) (sym c.in-Ok-make_ready.ensures.job) c.in-Ok.ensures.cleared in
+    let once = subst (λ (j : Job). OnceEach (plan_calls 1 c.args.text.now + length (asked_keys c.args.options.now j)) start (g.D.Depot.shown c.prepare.new.depot)) (sym c.in-Ok-make_ready.ensures.job) c.in-Ok.ensures.once in
     run_done (g.D.Share.yards_lack c.store_plan.new.depot) (case c.args.options.now c.args.text.now (scene source out start) (scene next after now)) job counts
-    (c.in-Ok-store_plan.ensures.ended c.args.text.now start source next out after cleared)
+    (c.in-Ok-store_plan.ensures.ended c.args.text.now start source next out after (plan_calls 1 c.args.text.now + length (asked_keys c.args.options.now job)) cleared once)
     (starts_then (run_limits c.args.options.now c.args.text.now job).asked (3 * (c.args.options.now.retries + 1)) (run_limits c.args.options.now c.args.text.now job).begun
-    (plan_calls 1 c.args.text.now + length (asked_keys c.args.options.now job)) 3 (run_keys c.args.options.now c.args.text.now job)
     (job_plan c.args.options.now job) counts start (g.D.Depot.shown c.prepare.new.depot) now
     (subst (λ (j : Job). WithinCalls (run_limits c.args.options.now c.args.text.now j).asked start (g.D.Depot.shown c.prepare.new.depot)) (sym c.in-Ok-make_ready.ensures.job) c.in-Ok.ensures.calls)
-    (omega arith)
-    (subst (λ (j : Job). OnceEach (plan_calls 1 c.args.text.now + length (asked_keys c.args.options.now j)) start (g.D.Depot.shown c.prepare.new.depot)) (sym c.in-Ok-make_ready.ensures.job) c.in-Ok.ensures.once)
     (omega arith) c.in-Ok-store_plan.ensures.starts)
     (subst (λ (p : PlanView). WroteFront out.told after.told (report_line p counts) (length (report_line p counts))) c.in-Ok-make_ready.ensures.ready.plan_is c.in-Ok-report.ensures.all)
 
@@ -56,14 +54,12 @@ returns-in-Ok-store_plan-clause-answer g c = λ source next.
     let job = c.in-Ok-make_ready.ready.job in
     let counts = c.in-Ok-store_plan.counts in
     let cleared = subst (λ (j : Job). IsCleared c.args.options.now c.args.text.now start (g.D.Depot.shown c.prepare.new.depot) j) (sym c.in-Ok-make_ready.ensures.job) c.in-Ok.ensures.cleared in
+    let once = subst (λ (j : Job). OnceEach (plan_calls 1 c.args.text.now + length (asked_keys c.args.options.now j)) start (g.D.Depot.shown c.prepare.new.depot)) (sym c.in-Ok-make_ready.ensures.job) c.in-Ok.ensures.once in
     run_unreported (g.D.Share.yards_lack c.store_plan.new.depot) (case c.args.options.now c.args.text.now (scene source out start) (scene next after now)) job counts
-    (c.in-Ok-store_plan.ensures.ended c.args.text.now start source next out after cleared)
+    (c.in-Ok-store_plan.ensures.ended c.args.text.now start source next out after (plan_calls 1 c.args.text.now + length (asked_keys c.args.options.now job)) cleared once)
     (starts_then (run_limits c.args.options.now c.args.text.now job).asked (3 * (c.args.options.now.retries + 1)) (run_limits c.args.options.now c.args.text.now job).begun
-    (plan_calls 1 c.args.text.now + length (asked_keys c.args.options.now job)) 3 (run_keys c.args.options.now c.args.text.now job)
     (job_plan c.args.options.now job) counts start (g.D.Depot.shown c.prepare.new.depot) now
     (subst (λ (j : Job). WithinCalls (run_limits c.args.options.now c.args.text.now j).asked start (g.D.Depot.shown c.prepare.new.depot)) (sym c.in-Ok-make_ready.ensures.job) c.in-Ok.ensures.calls)
-    (omega arith)
-    (subst (λ (j : Job). OnceEach (plan_calls 1 c.args.text.now + length (asked_keys c.args.options.now j)) start (g.D.Depot.shown c.prepare.new.depot)) (sym c.in-Ok-make_ready.ensures.job) c.in-Ok.ensures.once)
     (omega arith) c.in-Ok-store_plan.ensures.starts) c.in-Err-report.ensures.cause
     (subst (λ (p : PlanView). (n : ℕ) × (n ≤ length (report_line p counts)) × WroteFront out.told after.told (report_line p counts) n) c.in-Ok-make_ready.ensures.ready.plan_is
     c.in-Err-report.ensures.front)
@@ -73,7 +69,8 @@ returns-clause-answer g c = λ source next.
     let start = g.D.Depot.shown c.args.depot.now in
     let out = stream (g.W.Sink.written c.args.out.now) (g.W.Sink.faults c.args.out.now) in
     let cleared = subst (λ (j : Job). IsCleared c.args.options.now c.args.text.now start (g.D.Depot.shown c.prepare.new.depot) j) (sym c.in-Ok-make_ready.ensures.job) c.in-Ok.ensures.cleared in
-    c.in-Err-store_plan.ensures.ended c.args.text.now start source next out out cleared
+    let once = subst (λ (j : Job). OnceEach (plan_calls 1 c.args.text.now + length (asked_keys c.args.options.now j)) start (g.D.Depot.shown c.prepare.new.depot)) (sym c.in-Ok-make_ready.ensures.job) c.in-Ok.ensures.once in
+    c.in-Err-store_plan.ensures.ended c.args.text.now start source next out out (plan_calls 1 c.args.text.now + length (asked_keys c.args.options.now c.in-Ok-make_ready.ready.job)) cleared once
 
 pub returns-in-Err-clause-calls : goal.returns-in-Err-clause-calls
 returns-in-Err-clause-calls g c = λ source next sink after. c.in-Err.ensures.refused_calls source next sink after

@@ -1,4 +1,4 @@
-use Rattle.std.proofs.Common.{◌≡◌, ◌∙◌, List, Bool, None, ap, subst, sym, arith, Result, IfErr}
+use Rattle.std.proofs.Common.{◌≡◌, ◌∙◌, ◌+◌, List, Bool, None, ap, subst, sym, arith, Result, IfErr}
 use Rattle.cu_command.specs.Seen.{stream}
 use Rattle.cu_command.specs.declared.status.Status.{Status}
 use Rattle.cu_op.specs.PlanView.{PlanView}
@@ -89,7 +89,7 @@ drive_plan-requires-clause-found g c κs within = λ held told.
 
 pub returns : goal.returns
 returns g c = record {
-  ended = λ text old source next sink after cleared.
+  ended = λ text old source next sink after before cleared once.
       let start = g.D.Depot.shown c.args.depot.now in
       let now = g.D.Depot.shown c.drive_plan.new.depot in
       let lack = g.D.Share.yards_lack c.drive_plan.new.depot in
@@ -115,7 +115,7 @@ returns g c = record {
       let none : c.in-Ok-make.memory.table.done ≡ none_done (job_run run job).plan =
       ap (λ (t : TableView). t.done) c.in-Ok-make.ensures.memory.table ∙ c.deref.ensures.value ∙ c.in-Ok.ensures.none ∙ ap none_done c.requires.ready.plan_is in
       let (result, driven, answer) = subst (λ (done : List Bool). WasDriven (drive_case options (job_run run job) Neither done lack (start, now)) c.drive_plan.result) none c.drive_plan.ensures.driven in
-      subst (λ (r : Result RunCounts Status). Ended lack run job r) (sym answer) (run_ended run job laws start cleared lack histories c.count_law.ensures.fresh result driven);
+      subst (λ (r : Result RunCounts Status). Ended lack run job (before + 3) r) (sym answer) (run_ended run job laws start cleared lack histories c.count_law.ensures.fresh before once result driven);
   stopped =
       let run = run_of_job c.args.options.now c.args.ready.now.job in
       let (result, driven, answer) = c.drive_plan.ensures.driven in

@@ -1,5 +1,4 @@
 use Rattle.std.proofs.Common.{◌+◌, ◌*◌, ◌≤◌, ℕ, inr, sym, ap, subst, arith}
-use Rattle.cu_store.specs.Steps.{Shown, OnceEach}
 use Rattle.cu_store.proofs.Once.{once_then, once_few}
 use Rattle.cu_store.proofs.Steps.{steps_wider}
 use Rattle.cu_work.specs.Calls.{missing_texts}
@@ -7,6 +6,7 @@ use Rattle.cu_work.specs.Starts.{most_calls}
 use Rattle.cu_table.specs.Table.{TableView}
 use Rattle.cu_work.specs.Run.{run_of, IsUnstored}
 use Rattle.cu_work.proofs.Running.{unstored_first, apart_alone, open_mid, found_mid, run_step, texts_after, alone_mid, complete_after, share_unstored, share_refused}
+use Rattle.cu_work.proofs.SharedCalls.{once_before}
 use Rattle.cu_work.proofs.run.run_plan.Goals as goal
 
 -- the calls of so many tries, and of more
@@ -15,10 +15,6 @@ more_tries n a m r k few = omega (arith, few)
 
 both_tries : (a mid n m r k : ℕ) → mid ≤ a + m * r → n ≤ mid + r + k → n ≤ a + (m + 1) * r + k
 both_tries a mid n m r k first then = omega (arith, first, then)
-
--- the texts, sharing, and so many calls of tasks
-once_more : (j k : ℕ) (a b c : Shown) → OnceEach j a b → OnceEach (1 + k) b c → OnceEach (j + 1 + k) a c
-once_more j k a b c first then = once_few (j + (1 + k)) (j + 1 + k) a c (omega arith) (once_then j (1 + k) a b c first then)
 
 pub returns-in-Err-clause-record : goal.returns-in-Err-clause-record
 returns-in-Err-clause-record g c = λ env left.
@@ -95,21 +91,21 @@ returns-in-Ok-clause-tries g c = λ m most.
     both_tries _ _ _ (missing_texts c.args.held) (c.args.options.now.retries + 1) _ c.put_texts.ensures.calls (c.in-Ok.ensures.tries m most)
 
 pub returns-in-Ok-clause-once : goal.returns-in-Ok-clause-once
-returns-in-Ok-clause-once g c = λ m most.
-    once_more (missing_texts c.args.held) _ (g.D.Depot.shown c.args.depot.now) (g.D.Depot.shown c.put_texts.new.depot) (g.D.Depot.shown c.run_tasks.new.depot) c.put_texts.ensures.once (c.in-Ok.ensures.once m most)
+returns-in-Ok-clause-once g c =
+    once_before (missing_texts c.args.held) 1 c.args.plan.now c.in-Ok.end.table.history (g.D.Depot.shown c.args.depot.now) (g.D.Depot.shown c.put_texts.new.depot) (g.D.Depot.shown c.run_tasks.new.depot) c.put_texts.ensures.once c.in-Ok.ensures.once
 
 pub returns-in-Ok-clause-begun_once : goal.returns-in-Ok-clause-begun_once
 returns-in-Ok-clause-begun_once g c = tt
 
 pub returns-in-Err-clause-once : goal.returns-in-Err-clause-once
-returns-in-Err-clause-once g c = λ m most. tt
+returns-in-Err-clause-once g c = tt
 
 pub returns-in-Err-clause-begun_once : goal.returns-in-Err-clause-begun_once
 returns-in-Err-clause-begun_once g c =
     once_few (missing_texts c.args.held) (missing_texts c.args.held + 1) (g.D.Depot.shown c.args.depot.now) (g.D.Depot.shown c.put_texts.new.depot) (omega arith) c.put_texts.ensures.once
 
 pub returns-in-Err-run_tasks-clause-once : goal.returns-in-Err-run_tasks-clause-once
-returns-in-Err-run_tasks-clause-once g c = λ m most. tt
+returns-in-Err-run_tasks-clause-once g c = tt
 
 pub returns-in-Err-run_tasks-clause-begun_once : goal.returns-in-Err-run_tasks-clause-begun_once
 returns-in-Err-run_tasks-clause-begun_once g c =

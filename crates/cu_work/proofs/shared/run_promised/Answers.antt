@@ -2,7 +2,7 @@ use Rattle.std.proofs.Common.{◌≡◌, ◌≤◌, ℕ, Bool, IsTrue, All, ◌+
 use Rattle.std.specs.Prelude.{min}
 use Rattle.std.proofs.lemmas.List.Elements.{All-replicate}
 use Rattle.cu_store.specs.Faults.{last_count}
-use Rattle.cu_work.proofs.SharedCalls.{shared_once, calls_by_starts, calls_of_all}
+use Rattle.cu_work.proofs.SharedCalls.{shared_once, calls_started, calls_by_starts, calls_of_all}
 use Rattle.cu_work.specs.Rooms.{RoomSizes, rooms_of}
 use Rattle.cu_store.specs.Share.{Lent, KeysDiffer, MayShare, IsShared, MayGiveBack, PutPromised, HoldsSeen}
 use Rattle.cu_store.specs.Steps.{Steps}
@@ -270,17 +270,18 @@ returns-in-Ok-clause-calls g c =
     c.unshare.ensures.step.calls.1
 
 pub returns-in-Ok-clause-once : goal.returns-in-Ok-clause-once
-returns-in-Ok-clause-once g c = λ m most.
-    shared_once (g.D.Depot.shown c.args.depot.now) (g.D.Depot.shown c.share_tries.new.depot) (g.D.Depot.shown c.unshare.new.self) _ _ _ c.share_tries.ensures.once c.in-Ok.ensures.shared.calls
-    (calls_by_starts c.args.options.now c.args.plan.now c.args.memory.table.done c.args.memory.table c.work-end.result.table c.requires.memory.table (g.D.Yard.Yard.serves c.in-Ok.yard)
-    (g.D.Yard.Yard.knows c.in-Ok.pass) (g.D.Yard.Yard.knows c.work-end.new.pass) c.work-end.ensures.worked m most)
-    c.unshare.ensures.step.calls.1 c.unshare.ensures.step.count
+returns-in-Ok-clause-once g c =
+    shared_once c.args.plan.now c.work-end.result.table.history (g.D.Depot.shown c.args.depot.now) (g.D.Depot.shown c.share_tries.new.depot) (g.D.Depot.shown c.unshare.new.self)
+    (g.D.Yard.Yard.knows c.in-Ok.pass) (g.D.Yard.Yard.knows c.work-end.new.pass) c.share_tries.ensures.once c.in-Ok.ensures.shared.calls c.in-Ok.ensures.shared.faults
+    (calls_started c.args.options.now c.args.plan.now c.args.memory.table.done c.args.memory.table c.work-end.result.table c.requires.memory.table (g.D.Yard.Yard.serves c.in-Ok.yard)
+    (g.D.Yard.Yard.knows c.in-Ok.pass) (g.D.Yard.Yard.knows c.work-end.new.pass) c.work-end.ensures.worked)
+    c.work-end.ensures.worked.rose c.unshare.ensures.step.calls.1 c.unshare.ensures.counts.faults
 
 pub returns-in-Ok-clause-begun_once : goal.returns-in-Ok-clause-begun_once
 returns-in-Ok-clause-begun_once g c = tt
 
 pub returns-in-Err-clause-once : goal.returns-in-Err-clause-once
-returns-in-Err-clause-once g c = λ m most. tt
+returns-in-Err-clause-once g c = tt
 
 pub returns-in-Err-clause-begun_once : goal.returns-in-Err-clause-begun_once
 returns-in-Err-clause-begun_once g c = c.share_tries.ensures.once
