@@ -22,6 +22,7 @@ pub mod PartialValues
 pub mod PullTask
 pub mod ReadRegions
 pub mod ReductionTask
+pub mod ReshapedChunks
 pub mod ScanTask
 pub mod SearchTask
 pub mod Serving
@@ -34,5 +35,6 @@ pub mod TaskKinds
 pub mod TaskRegions
 pub mod TaskRooms
 pub mod TaskSteps
+pub mod Together
 pub mod ViewChunks
 pub mod ViewElements

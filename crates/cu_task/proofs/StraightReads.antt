@@ -37,9 +37,9 @@ use Rattle.cu_view_box.proofs.Lined.{spelled_own}
 use Rattle.cu_view_box.proofs.SharedBoxes.{read_axis}
 use Rattle.cu_op.specs.Arrays.{grid_at, type_at}
 use Rattle.cu_op.specs.declared.layout.ArrayInfo.{ArrayInfo}
-use Rattle.cu_task.specs.Straight.{IsShift, ReadsFromOn, ReadsFrom, IsShifted, IsStraight}
+use Rattle.cu_task.specs.Straight.{IsShift, ReadsFromOn, ReadsFrom, IsShifted, IsInOrder, IsStraight}
 use Rattle.cu_task.specs.ViewJobs.{IsSourceChunk, HaveComeFrom, made_in, buffer_room, view_task_of}
-use Rattle.cu_task.specs.Views.{source_in, IsOfChunk, IsSourceKey, IsKnown}
+use Rattle.cu_task.specs.Views.{source_in, IsSourceKey, IsKnown}
 use Rattle.cu_task.specs.declared.views.SourceChunk.{SourceChunk}
 use Rattle.cu_task.proofs.JobViews.{fitting, source_grid, origin_passed}
 use Rattle.cu_task.proofs.ViewChunks.{origin_inside, same_index}
@@ -123,22 +123,21 @@ is_shifted chunk h shape es out part low high first number piece numbered same s
     ∙ ap (λ (i : List ℕ). From chunk.source i) (r.1 ∙ ap (λ (x : List ℕ). sums x (differences idx out.lo)) first
     ∙ ap (λ (x : List ℕ). sums (chunk_lo (source_in (view_task_of chunk.job.now) chunk.source).layout.grid.chunk chunk.coord) (differences idx x)) low)
 
-pub is_straight : (chunk : SourceChunk) (a : ArrayInfo) (to : Block) → a ≡ source_in (view_task_of chunk.job.now) chunk.source → to.dims ≡ differences (view_task_of chunk.job.now).hi (view_task_of chunk.job.now).lo
-    → to.dtype ≡ (made_in (view_task_of chunk.job.now)).layout.dtype → a.layout.dtype ≡ to.dtype → to.dims ≡ a.layout.grid.chunk → IsShifted chunk → IsStraight chunk
-is_straight chunk a to from sizes dt same equal shifted = record {
-  dtype = ap (λ (x : ArrayInfo). x.layout.dtype) (sym from) ∙ same ∙ dt;
-  sizes = sym sizes ∙ equal ∙ ap (λ (x : ArrayInfo). x.layout.grid.chunk) from;
-  shifted = shifted;
+pub straight_from : (chunk : SourceChunk) (a made : ArrayInfo) → a ≡ source_in (view_task_of chunk.job.now) chunk.source → made ≡ made_in (view_task_of chunk.job.now)
+    → a.layout.dtype ≡ made.layout.dtype → IsInOrder chunk → IsStraight chunk
+straight_from chunk a made from to same order = record {
+  dtype = ap (λ (x : ArrayInfo). x.layout.dtype) (sym from) ∙ same ∙ ap (λ (x : ArrayInfo). x.layout.dtype) to;
+  order = order;
 }
 
 pub if_err_then : {T E : Type 0} {P Q : E → Type 0} (r : Result T E) → ((e : E) → P e → Q e) → IfErr r P → IfErr r Q
 if_err_then (Ok x) f p = tt
 if_err_then (Err e) f p = f e p
 
--- ---- what is read
+-- ---- the elements of a region that is shifted, as those of the chunk
 
 -- an index of a chunk by how far it is from the chunk's first
-shifted_place : (chunk coord r : List ℕ) → length coord ≡ length chunk → IsInside chunk r → (quotients (sums (products coord chunk) r) chunk ≡ coord) × (remainders (sums (products coord chunk) r) chunk ≡ r)
+pub shifted_place : (chunk coord r : List ℕ) → length coord ≡ length chunk → IsInside chunk r → (quotients (sums (products coord chunk) r) chunk ≡ coord) × (remainders (sums (products coord chunk) r) chunk ≡ r)
 shifted_place [] [] [] rank inside = (refl, refl)
 shifted_place [] [] (x ∷ r) rank inside = absurd inside
 shifted_place [] (q ∷ coord) r rank inside = absurd (omega arith)
@@ -147,6 +146,30 @@ shifted_place (c ∷ chunk) (q ∷ coord) [] rank inside = absurd inside
 shifted_place (c ∷ chunk) (q ∷ coord) (x ∷ r) rank inside =
     let rest = shifted_place chunk coord r (omega arith) inside.1 in
     (rw (div-mul-add q c x inside.0, rest.0) refl, rw (mod-mul-add q c x inside.0, rest.1) refl)
+
+pub in_order : (chunk : SourceChunk) → IsSourceChunk chunk → (a : ArrayInfo) (to : Block) → a ≡ source_in (view_task_of chunk.job.now) chunk.source
+    → to.dims ≡ differences (view_task_of chunk.job.now).hi (view_task_of chunk.job.now).lo → to.dims ≡ a.layout.grid.chunk → IsShifted chunk → IsInOrder chunk
+in_order chunk h a to from dims equal shifted =
+    let sizes : differences (view_task_of chunk.job.now).hi (view_task_of chunk.job.now).lo ≡ (source_in (view_task_of chunk.job.now) chunk.source).layout.grid.chunk
+    = sym dims ∙ equal ∙ ap (λ (x : ArrayInfo). x.layout.grid.chunk) from in
+    let ok = source_grid chunk.job.now h.job chunk.source h.source in
+    let rank = coordinate-length (source_in (view_task_of chunk.job.now) chunk.source).layout.grid chunk.coord ok h.coordinate ∙ sym ok.ranks in
+    record {
+      count = ap product sizes;
+      stands = λ idx w.
+          let inside : IsInside (source_in (view_task_of chunk.job.now) chunk.source).layout.grid.chunk (differences idx (view_task_of chunk.job.now).lo)
+          = subst (λ (x : List ℕ). IsInside x (differences idx (view_task_of chunk.job.now).lo)) sizes (within_sizes (view_task_of chunk.job.now).lo (view_task_of chunk.job.now).hi idx w) in
+          let at = shifted_place (source_in (view_task_of chunk.job.now) chunk.source).layout.grid.chunk chunk.coord (differences idx (view_task_of chunk.job.now).lo) rank inside in
+          record {
+            index = sums (chunk_lo (source_in (view_task_of chunk.job.now) chunk.source).layout.grid.chunk chunk.coord) (differences idx (view_task_of chunk.job.now).lo);
+            origin = shifted idx w;
+            part = at.0;
+            place = ap (λ (x : List ℕ). place_of x (differences idx (view_task_of chunk.job.now).lo)) sizes
+                ∙ ap (place_of (source_in (view_task_of chunk.job.now) chunk.source).layout.grid.chunk) (sym at.1);
+          };
+    }
+
+-- ---- what is read
 
 front_of_chunk : (info : ArrayInfo) (coord buf : List ℕ) (held : Option Contents) → HasChunk info coord held buf → HasFront info coord held buf
 front_of_chunk info coord buf None has = tt
@@ -157,20 +180,7 @@ module _ (chunk : SourceChunk) (h : IsSourceChunk chunk) (straight : IsStraight 
   pub straight_room : buffer_room (view_task_of chunk.job.now) ≡ bytes_of (source_in (view_task_of chunk.job.now) chunk.source).layout
   straight_room =
       ap (λ (t : Dtype). product (differences (view_task_of chunk.job.now).hi (view_task_of chunk.job.now).lo) * size_of t) (sym straight.dtype)
-      ∙ ap (λ (x : List ℕ). product x * size_of (source_in (view_task_of chunk.job.now) chunk.source).layout.dtype) straight.sizes
-
-  -- how far an index lies from the region's first, which is its index in the chunk
-  in_chunk : (idx : List ℕ) → IsWithin (view_task_of chunk.job.now).lo (view_task_of chunk.job.now).hi idx → IsInside (source_in (view_task_of chunk.job.now) chunk.source).layout.grid.chunk (differences idx (view_task_of chunk.job.now).lo)
-  in_chunk idx w = subst (λ (x : List ℕ). IsInside x (differences idx (view_task_of chunk.job.now).lo)) straight.sizes (within_sizes (view_task_of chunk.job.now).lo (view_task_of chunk.job.now).hi idx w)
-
-  place_straight : (idx : List ℕ) → IsWithin (view_task_of chunk.job.now).lo (view_task_of chunk.job.now).hi idx
-      → IsOfChunk (view_task_of chunk.job.now) chunk.source chunk.coord (sums (chunk_lo (source_in (view_task_of chunk.job.now) chunk.source).layout.grid.chunk chunk.coord) (differences idx (view_task_of chunk.job.now).lo))
-      × (remainders (sums (chunk_lo (source_in (view_task_of chunk.job.now) chunk.source).layout.grid.chunk chunk.coord) (differences idx (view_task_of chunk.job.now).lo)) (source_in (view_task_of chunk.job.now) chunk.source).layout.grid.chunk
-      ≡ differences idx (view_task_of chunk.job.now).lo)
-  place_straight idx w =
-      let ok = source_grid chunk.job.now h.job chunk.source h.source in
-      shifted_place (source_in (view_task_of chunk.job.now) chunk.source).layout.grid.chunk chunk.coord (differences idx (view_task_of chunk.job.now).lo)
-      (coordinate-length (source_in (view_task_of chunk.job.now) chunk.source).layout.grid chunk.coord ok h.coordinate ∙ sym ok.ranks) (in_chunk idx w)
+      ∙ ap (λ (n : ℕ). n * size_of (source_in (view_task_of chunk.job.now) chunk.source).layout.dtype) straight.order.count
 
   pub takes_straight : (old new : List ℕ) (told : Option Contents) (first mid : Shown)
       → length new ≡ bytes_of (source_in (view_task_of chunk.job.now) chunk.source).layout → IsKnown (IsSourceKey (view_task_of chunk.job.now) chunk.source) told first → Steps NoChange 1 1 first mid
@@ -182,13 +192,14 @@ module _ (chunk : SourceChunk) (h : IsSourceChunk chunk) (straight : IsStraight 
         let fit = fitting chunk.job.now h.job in
         let own = origin_inside (view_task_of chunk.job.now) fit idx i chunk.source w o in
         let later = known_later (view_task_of chunk.job.now) chunk.source told 1 1 first mid known step in
-        let is = same_index chunk.source chunk.source i _ (sym o ∙ straight.shifted idx w) in
-        let rest : remainders i (source_in (view_task_of chunk.job.now) chunk.source).layout.grid.chunk ≡ differences idx (view_task_of chunk.job.now).lo
-        = ap (λ (x : List ℕ). remainders x (source_in (view_task_of chunk.job.now) chunk.source).layout.grid.chunk) is ∙ (place_straight idx w).1 in
+        let own_place = straight.order.stands idx w in
+        let is : i ≡ own_place.index = same_index chunk.source chunk.source i own_place.index (sym o ∙ own_place.origin) in
         let place : place_within (view_task_of chunk.job.now).lo (view_task_of chunk.job.now).hi idx ≡ place_of (source_in (view_task_of chunk.job.now) chunk.source).layout.grid.chunk (remainders i (source_in (view_task_of chunk.job.now) chunk.source).layout.grid.chunk)
-        = ap (λ (x : List ℕ). place_of x (differences idx (view_task_of chunk.job.now).lo)) straight.sizes ∙ ap (place_of (source_in (view_task_of chunk.job.now) chunk.source).layout.grid.chunk) (sym rest) in
-        let inside : IsInside (source_in (view_task_of chunk.job.now) chunk.source).layout.grid.chunk (remainders i (source_in (view_task_of chunk.job.now) chunk.source).layout.grid.chunk) = rw rest (in_chunk idx w) in
-        let below = place-below (source_in (view_task_of chunk.job.now) chunk.source).layout.grid.chunk (remainders i (source_in (view_task_of chunk.job.now) chunk.source).layout.grid.chunk) inside in
+        = own_place.place ∙ ap (λ (x : List ℕ). place_of (source_in (view_task_of chunk.job.now) chunk.source).layout.grid.chunk (remainders x (source_in (view_task_of chunk.job.now) chunk.source).layout.grid.chunk)) (sym is) in
+        let within = place-below (differences (view_task_of chunk.job.now).hi (view_task_of chunk.job.now).lo) (differences idx (view_task_of chunk.job.now).lo) (within_sizes (view_task_of chunk.job.now).lo (view_task_of chunk.job.now).hi idx w) in
+        let count = straight.order.count in
+        let below : suc (place_of (source_in (view_task_of chunk.job.now) chunk.source).layout.grid.chunk (remainders i (source_in (view_task_of chunk.job.now) chunk.source).layout.grid.chunk)) ≤ product (source_in (view_task_of chunk.job.now) chunk.source).layout.grid.chunk
+        = omega (arith, within, place, count) in
         let far = mul-le (suc (place_of (source_in (view_task_of chunk.job.now) chunk.source).layout.grid.chunk (remainders i (source_in (view_task_of chunk.job.now) chunk.source).layout.grid.chunk))) (size_of (source_in (view_task_of chunk.job.now) chunk.source).layout.dtype)
         (product (source_in (view_task_of chunk.job.now) chunk.source).layout.grid.chunk) (size_of (source_in (view_task_of chunk.job.now) chunk.source).layout.dtype) below (omega arith) in
         let fits : IsInFront (view_task_of chunk.job.now) chunk.source new i = omega (arith, far, long) in
@@ -202,7 +213,7 @@ module _ (chunk : SourceChunk) (h : IsSourceChunk chunk) (straight : IsStraight 
               ∙ spelled_own (source_in (view_task_of chunk.job.now) chunk.source).layout.dtype new (place_of (source_in (view_task_of chunk.job.now) chunk.source).layout.grid.chunk (remainders i (source_in (view_task_of chunk.job.now) chunk.source).layout.grid.chunk)) elements fits
               ∙ ap (λ (t : Dtype). element_bytes Little t (element_at Little (source_in (view_task_of chunk.job.now) chunk.source).layout.dtype new (place_of (source_in (view_task_of chunk.job.now) chunk.source).layout.grid.chunk (remainders i (source_in (view_task_of chunk.job.now) chunk.source).layout.grid.chunk)))) straight.dtype;
         };
-    others = λ idx w none. absurd (none _ (straight.shifted idx w) (place_straight idx w).0);
+    others = λ idx w none. (let here = straight.order.stands idx w in absurd (none here.index here.origin here.part));
   }
 
   pub took_straight : (old new : List ℕ) (told : Option Contents) (first mid : Shown) (a : ArrayInfo) → a ≡ source_in (view_task_of chunk.job.now) chunk.source → {E : Type 0} (r : Result Unit E)

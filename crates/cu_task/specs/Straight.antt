@@ -1,16 +1,19 @@
 -- Views that leave a chunk of a source as it stands. This project's own rules.
 use Rattle.std.specs.Prelude.{◌≡◌, ℕ, ◌+◌, ◌-◌, ◌<◌, ◌≤◌, List, slice_index}
-use Rattle.cu_shape.specs.Index.{sums, differences}
+use Rattle.cu_shape.specs.Index.{product, place_of, sums, differences, remainders}
 use Rattle.cu_grid.specs.Counts.{IsWithin, chunk_lo}
 use Rattle.cu_grid.specs.declared.region.Region.{Region}
+use Rattle.cu_codec.specs.Parts.{place_within}
 use Rattle.cu_origin.specs.declared.provenance.Provenance.TheVariants.{From}
 use Rattle.cu_view_box.specs.Piece.{count_along, read_at}
 use Rattle.cu_view_box.specs.Way.{read_by}
 use Rattle.cu_view_box.specs.declared.piece.Piece.{Piece}
 use Rattle.cu_view_box.specs.declared.way.Way.{Way}
 use Rattle.cu_task.specs.ViewJobs.{made_in, view_of_chunk, source_of_chunk}
-use Rattle.cu_task.specs.Views.{origin_in}
+use Rattle.cu_task.specs.Views.{origin_in, IsOfChunk}
 use Rattle.cu_task.specs.declared.views.SourceChunk.{SourceChunk}
+
+-- ---- one index after another on each axis
 
 -- from a count on a way reads, for each of so many counts along this axis of the result, the next index, and `first` at first
 pub record IsShift (way : Way) (axis from count first : ℕ) : Type 0 where
@@ -32,8 +35,26 @@ abbrev pub IsShifted : SourceChunk → Type 0
 IsShifted chunk = (idx : List ℕ) → IsWithin (view_of_chunk chunk).lo (view_of_chunk chunk).hi idx
     → origin_in (view_of_chunk chunk) idx ≡ From chunk.source (sums (chunk_lo (source_of_chunk chunk).layout.grid.chunk chunk.coord) (differences idx (view_of_chunk chunk).lo))
 
--- and they are as many as the chunk's, and of the same type: the region is the chunk
+-- ---- one place after another
+
+-- the elements of a region stand in an array of this shape at places one after another, in the order of the region's buffer
+abbrev pub StandTogether : List ℕ → Region → ℕ → Type 0
+StandTogether shape region first = (idx : List ℕ) → IsWithin region.lo region.hi idx → place_of shape idx ≡ first + place_within region.lo region.hi idx
+
+-- an element of the task's region comes from the chunk, and stands there at the place that it has in the region
+pub record StandsInChunk (chunk : SourceChunk) (idx : List ℕ) : Type 0 where
+  pub index : List ℕ
+  pub origin : origin_in (view_of_chunk chunk) idx ≡ From chunk.source index
+  pub part : IsOfChunk (view_of_chunk chunk) chunk.source chunk.coord index
+  pub place : place_within (view_of_chunk chunk).lo (view_of_chunk chunk).hi idx
+      ≡ place_of (source_of_chunk chunk).layout.grid.chunk (remainders index (source_of_chunk chunk).layout.grid.chunk)
+
+-- all of them do, and they are as many as the chunk's
+pub record IsInOrder (chunk : SourceChunk) : Type 0 where
+  pub count : product (differences (view_of_chunk chunk).hi (view_of_chunk chunk).lo) ≡ product (source_of_chunk chunk).layout.grid.chunk
+  pub stands : (idx : List ℕ) → IsWithin (view_of_chunk chunk).lo (view_of_chunk chunk).hi idx → StandsInChunk chunk idx
+
+-- and they are of the same type: the region's buffer is the chunk's
 pub record IsStraight (chunk : SourceChunk) : Type 0 where
   pub dtype : (source_of_chunk chunk).layout.dtype ≡ (made_in (view_of_chunk chunk)).layout.dtype
-  pub sizes : differences (view_of_chunk chunk).hi (view_of_chunk chunk).lo ≡ (source_of_chunk chunk).layout.grid.chunk
-  pub shifted : IsShifted chunk
+  pub order : IsInOrder chunk

@@ -13,6 +13,7 @@ mod maps;
 mod products;
 mod pulls;
 mod reductions;
+mod reshapes;
 mod results;
 mod room;
 mod run;

@@ -3,9 +3,11 @@ ghost use Rattle.std.specs.Prelude.{◌<◌, ℕ, List, IfSome, length};
 ghost use Rattle.std.specs.Bool.{OnTrue};
 ghost use Rattle.cu_view.specs.Pieces.{IsShown};
 ghost use Rattle.cu_view_box.specs.Piece.{HaveRanks};
-ghost use Rattle.cu_task.specs.Straight.{IsShift, IsShifted, IsStraight, ReadsFrom, ReadsFromOn};
+ghost use Rattle.cu_task.specs.Straight.{IsInOrder, IsShift, IsShifted, IsStraight};
+ghost use Rattle.cu_task.specs.Straight.{ReadsFrom, ReadsFromOn};
 ghost use Rattle.cu_task.specs.ViewJobs.{IsSourceChunk};
 
+use crate::reshapes::is_reshaped_chunk;
 use crate::views::{SourceChunk, chunk_part, made_array, result_block, source_array};
 use cu_grid::Region;
 use cu_origin::Pull;
@@ -13,17 +15,31 @@ use cu_view::{piece_at, piece_count};
 use cu_view_box::{Piece, Way};
 
 /// Whether the region of the task is a chunk of a source as it stands there, so that the chunk can
-/// be read into the region's buffer. Of a reshape, and of a view with more axes than its source or
-/// fewer, it may be false where it is so.
+/// be read into the region's buffer. It may be false where it is so: of a view with more axes than
+/// its source or fewer that isn't a reshape, and of a reshape where the array's edge cuts the chunk.
 pub(crate) fn is_straight(chunk: &SourceChunk<'_>) -> bool
     requires { IsSourceChunk chunk.now }
     ensures { OnTrue result (IsStraight chunk.now) }
 {
     let from = source_array(chunk.job, chunk.source);
-    let to = result_block(chunk.job);
-    if from.layout.dtype != to.dtype {
+    let made = made_array(chunk.job);
+    if from.layout.dtype != made.layout.dtype {
         return false;
     }
+    match chunk.job.pull {
+        Pull::Reshape => is_reshaped_chunk(chunk),
+        _ => is_shifted_chunk(chunk),
+    }
+}
+
+/// Whether the region has the chunk's sizes, and its elements are those of the source from the
+/// chunk's first index on.
+fn is_shifted_chunk(chunk: &SourceChunk<'_>) -> bool
+    requires { IsSourceChunk chunk.now }
+    ensures { OnTrue result (IsInOrder chunk.now) }
+{
+    let from = source_array(chunk.job, chunk.source);
+    let to = result_block(chunk.job);
     if !to.dims.is(from.layout.grid.chunk()) {
         return false;
     }

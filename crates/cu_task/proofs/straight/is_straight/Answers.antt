@@ -1,12 +1,13 @@
-use Rattle.std.proofs.Common.{◌≡◌, ◌∙◌, rules}
-use Rattle.cu_task.proofs.StraightReads.{on_true_then, is_straight}
+use Rattle.std.proofs.Common.{◌≡◌, rules}
+use Rattle.cu_task.proofs.StraightReads.{on_true_then, straight_from}
 use Rattle.cu_task.proofs.straight.is_straight.Goals as goal
 
-pub returns : goal.returns
-returns c =
-    let same : c.source_array-from.result.now.layout.dtype ≡ c.result_block-to.result.dtype = search rules in
-    let equal : c.result_block-to.result.dims ≡ c.chunk.result.now = c.is.ensures.0 (search rules) in
-    let to = c.result_block-to.ensures in
-    on_true_then c.is_shifted.result
-    (is_straight c.args.chunk.now c.source_array-from.result.now c.result_block-to.result c.source_array-from.ensures to.dims to.dtype same (equal ∙ c.chunk.ensures.value))
-    c.is_shifted.ensures
+pub returns-in-Reshape : goal.returns-in-Reshape
+returns-in-Reshape c =
+    let same : c.source_array-from.result.now.layout.dtype ≡ c.made_array-made.result.now.layout.dtype = search rules in
+    on_true_then c.is_reshaped_chunk.result (straight_from c.args.chunk.now c.source_array-from.result.now c.made_array-made.result.now c.source_array-from.ensures c.made_array-made.ensures same) c.is_reshaped_chunk.ensures
+
+pub returns-in_default : goal.returns-in_default
+returns-in_default c =
+    let same : c.source_array-from.result.now.layout.dtype ≡ c.made_array-made.result.now.layout.dtype = search rules in
+    on_true_then c.is_shifted_chunk.result (straight_from c.args.chunk.now c.source_array-from.result.now c.made_array-made.result.now c.source_array-from.ensures c.made_array-made.ensures same) c.is_shifted_chunk.ensures
