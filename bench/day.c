@@ -5,16 +5,7 @@
    Each chunk of an input is read whole, and each chunk of the result is put in place by a synced new file that is renamed, below
    FOLDER/loops/c. Each of the processes makes a part of the chunks. It prints the seconds of the processor in all of them, in the
    program and in the system. day.py compiles it, and gives the sizes as definitions. */
-#include <fcntl.h>
-#include <stdarg.h>
-#include <stdint.h>
-#include <stdio.h>
-#include <stdlib.h>
-#include <string.h>
-#include <sys/resource.h>
-#include <sys/stat.h>
-#include <sys/wait.h>
-#include <unistd.h>
+#include "files.h"
 
 #define GREATER(a, b) ((a) > (b) ? (a) : (b))
 
@@ -32,97 +23,15 @@ enum {
     BUFFER = GREATER(CELLS, GREATER(MAP_CELLS, HOUR_CELLS)),
 };
 
-static const char *folder;
 static int days;
 
 /* Buffers: two chunks that are read, and one that is made. What isn't touched takes no memory. */
 static int16_t *cells, *others, *made;
 static int16_t base[PLACES];
 
-static void die(const char *what)
-{
-    perror(what);
-    exit(1);
-}
-
-static void *room(size_t bytes)
-{
-    void *found = malloc(bytes);
-    if (!found)
-        die("malloc");
-    return found;
-}
-
 static int least(int a, int b)
 {
     return a < b ? a : b;
-}
-
-/* Files */
-
-static int open_file(const char *path)
-{
-    int file = open(path, O_RDONLY);
-    if (file < 0)
-        die(path);
-    return file;
-}
-
-static void read_at(int file, void *to, size_t bytes, size_t at)
-{
-    for (size_t done = 0; done < bytes;) {
-        ssize_t count = pread(file, (char *)to + done, bytes - done, at + done);
-        if (count <= 0)
-            die("pread");
-        done += count;
-    }
-}
-
-/* Reads a whole chunk; the words are its file's. */
-static void read_chunk(int16_t *to, int count, const char *format, ...)
-{
-    char path[4096];
-    int length = snprintf(path, sizeof path, "%s/", folder);
-    va_list words;
-    va_start(words, format);
-    vsnprintf(path + length, sizeof path - length, format, words);
-    va_end(words);
-    int file = open_file(path);
-    read_at(file, to, count * sizeof *to, 0);
-    close(file);
-}
-
-static void make_folders(char *path)
-{
-    for (char *at = strchr(path + strlen(folder) + 1, '/'); at; at = strchr(at + 1, '/')) {
-        *at = 0;
-        mkdir(path, 0777);
-        *at = '/';
-    }
-}
-
-/* Puts a chunk of the result in place; the words are its coordinate. */
-static void put(const void *from, size_t bytes, const char *format, ...)
-{
-    char path[4096], new[4100];
-    int length = snprintf(path, sizeof path, "%s/loops/c/", folder);
-    va_list words;
-    va_start(words, format);
-    vsnprintf(path + length, sizeof path - length, format, words);
-    va_end(words);
-    make_folders(path);
-    snprintf(new, sizeof new, "%s.new", path);
-    int file = open(new, O_WRONLY | O_CREAT | O_TRUNC, 0666);
-    if (file < 0)
-        die(new);
-    for (size_t done = 0; done < bytes;) {
-        ssize_t count = write(file, (const char *)from + done, bytes - done);
-        if (count <= 0)
-            die(new);
-        done += count;
-    }
-    if (fdatasync(file) || close(file) || rename(new, path))
-        die(path);
 }
 
 /* The days */
@@ -139,7 +48,7 @@ static int days_in(int chunk, int total)
 
 static void read_days(int16_t *to, int chunk, int strip)
 {
-    read_chunk(to, CELLS, "t/c/%d/0/%d", chunk, strip);
+    read_chunk(to, CELLS * sizeof *to, "t/c/%d/0/%d", chunk, strip);
 }
 
 /* Stores a chunk of days, with zeros behind the last one. */
@@ -155,7 +64,7 @@ static void exceedances(int strip)
 {
     static int64_t sums[PLACES];
     memset(sums, 0, sizeof sums);
-    read_chunk(base, PLACES, "base/c/0/%d", strip);
+    read_chunk(base, sizeof base, "base/c/0/%d", strip);
     for (int chunk = 0; chunk < day_chunks(); chunk++) {
         read_days(cells, chunk, strip);
         for (int day = 0; day < days_in(chunk, days); day++)
@@ -209,7 +118,7 @@ static void greatest_anomaly(int strip)
     static int16_t best[PLACES];
     static int32_t where[PLACES];
     static int64_t places[PLACES];
-    read_chunk(base, PLACES, "base/c/0/%d", strip);
+    read_chunk(base, sizeof base, "base/c/0/%d", strip);
     for (int chunk = 0; chunk < day_chunks(); chunk++) {
         read_days(cells, chunk, strip);
         for (int day = 0; day < days_in(chunk, days); day++) {
@@ -249,7 +158,7 @@ static void monthly_sums(int strip)
     memset(sums, 0, sizeof sums);
     for (int chunk = 0; chunk < day_chunks(); chunk++) {
         read_days(cells, chunk, strip);
-        read_chunk(months, DAYS_A_CHUNK, "month/c/%d", chunk);
+        read_chunk(months, sizeof months, "month/c/%d", chunk);
         for (int day = 0; day < days_in(chunk, days); day++) {
             int month = months[day];
             if (month >= 0 && month < MONTHS)
@@ -303,7 +212,7 @@ static void without_climate(int strip)
 {
     for (int chunk = 0; chunk < day_chunks(); chunk++) {
         read_days(cells, chunk, strip);
-        read_chunk(others, CELLS, "climate/c/%d/0/%d", chunk % (CLIMATE_DAYS / DAYS_A_CHUNK), strip);
+        read_chunk(others, CELLS * sizeof *others, "climate/c/%d/0/%d", chunk % (CLIMATE_DAYS / DAYS_A_CHUNK), strip);
         for (int i = 0; i < days_in(chunk, days) * PLACES; i++)
             made[i] = cells[i] - others[i];
         put_days(made, days_in(chunk, days), chunk, strip);
@@ -312,7 +221,7 @@ static void without_climate(int strip)
 
 static void anomalies(int strip)
 {
-    read_chunk(base, PLACES, "base/c/0/%d", strip);
+    read_chunk(base, sizeof base, "base/c/0/%d", strip);
     for (int chunk = 0; chunk < day_chunks(); chunk++) {
         read_days(cells, chunk, strip);
         for (int day = 0; day < days_in(chunk, days); day++)
@@ -405,7 +314,7 @@ static void bins(int chunk)
     static int64_t *sums;
     if (!sums)
         sums = room(BINS * sizeof *sums);
-    read_chunk(cells, MAP_CELLS, "maps/c/%d/0/0", chunk);
+    read_chunk(cells, MAP_CELLS * sizeof *cells, "maps/c/%d/0/0", chunk);
     for (int row = 0; row < MAPS_A_CHUNK * MAP_ROWS / 2; row++) {
         const int16_t *upper = cells + row * 2 * MAP_COLUMNS, *lower = upper + MAP_COLUMNS;
         for (int c = 0; c < MAP_COLUMNS / 2; c++)
@@ -416,7 +325,7 @@ static void bins(int chunk)
 
 static void greatest_of_days(int chunk)
 {
-    read_chunk(cells, HOUR_CELLS, "hours/c/%d/0/0", chunk);
+    read_chunk(cells, HOUR_CELLS * sizeof *cells, "hours/c/%d/0/0", chunk);
     for (int day = 0; day < HOURS_A_CHUNK / HOURS_A_DAY; day++) {
         const int16_t *t = cells + day * HOURS_A_DAY * MAP;
         for (int p = 0; p < MAP; p++) {
@@ -430,7 +339,7 @@ static void greatest_of_days(int chunk)
 }
 
 /* Each work makes one of its parts, or those from one to another. */
-static const struct {
+static const struct work {
     const char *name;
     void (*one)(int);
     void (*range)(int, int);
@@ -453,43 +362,15 @@ static const struct {
     {"greatest of each day", greatest_of_days, NULL, HOURS / HOURS_A_CHUNK},
 };
 
-/* Makes the share of one of so many processes. */
-static void run(int work, int share, int processes)
+static const struct work *work;
+
+static void make_parts(int from, int to)
 {
-    int parts = WORKS[work].parts, from = parts * share / processes, to = parts * (share + 1) / processes;
-    if (WORKS[work].range)
-        WORKS[work].range(from, to);
+    if (work->range)
+        work->range(from, to);
     else
         for (int part = from; part < to; part++)
-            WORKS[work].one(part);
-}
-
-static double processor_seconds(int who)
-{
-    struct rusage spent;
-    getrusage(who, &spent);
-    return spent.ru_utime.tv_sec + spent.ru_stime.tv_sec + (spent.ru_utime.tv_usec + spent.ru_stime.tv_usec) / 1e6;
-}
-
-/* Runs all shares, each in a process of its own where there are several. */
-static void run_all(int work, int processes)
-{
-    if (processes == 1) {
-        run(work, 0, 1);
-        return;
-    }
-    for (int share = 0; share < processes; share++) {
-        pid_t child = fork();
-        if (child < 0)
-            die("fork");
-        if (child == 0) {
-            run(work, share, processes);
-            exit(0);
-        }
-    }
-    for (int status; wait(&status) > 0;)
-        if (status)
-            exit(1);
+            work->one(part);
 }
 
 int main(int count, char **words)
@@ -503,10 +384,11 @@ int main(int count, char **words)
     cells = room(BUFFER * sizeof *cells);
     others = room(BUFFER * sizeof *others);
     made = room(BUFFER * sizeof *made);
-    for (int work = 0; work < (int)(sizeof WORKS / sizeof *WORKS); work++)
-        if (!strcmp(words[1], WORKS[work].name)) {
-            run_all(work, atoi(words[4]));
-            printf("%.6f\n", processor_seconds(RUSAGE_SELF) + processor_seconds(RUSAGE_CHILDREN));
+    for (int number = 0; number < (int)(sizeof WORKS / sizeof *WORKS); number++)
+        if (!strcmp(words[1], WORKS[number].name)) {
+            work = &WORKS[number];
+            make_all(make_parts, work->parts, atoi(words[4]));
+            tell_seconds();
             return 0;
         }
     fprintf(stderr, "day: no work %s\n", words[1]);

@@ -31,14 +31,13 @@ import json
 import math
 import os
 import shutil
-import subprocess
 import sys
 import tempfile
 import time
 
 sys.dont_write_bytecode = True
-from programs import processor  # programs.py, in this folder
-from stored import (GNU_TIME, HERE, PROGRAM, can_import, clear, folders, link_as_version_2, metadata, processor_seconds, put,
+import programs  # programs.py, in this folder
+from stored import (GNU_TIME, PROGRAM, can_import, clear, folders, link_as_version_2, metadata, processor_seconds, put,
                     see_that_all_is_the_same, see_that_it_is_built, store_by_dask, timed)
 from workers import Told, node
 
@@ -167,23 +166,17 @@ def make_inputs(folder, days, names):
 
 
 def definitions():
-    """The sizes, as the words of a compiler."""
+    """The sizes, by their names in C."""
     (rows, columns), columns_a_chunk = PLACES, PLACES_A_CHUNK[1]
-    sizes = {"DAYS_A_CHUNK": DAYS_A_CHUNK, "ROWS": rows, "COLUMNS": columns, "COLUMNS_A_CHUNK": columns_a_chunk, "CLIMATE_DAYS": CLIMATE_DAYS,
-             "SERIES_SIDE": SERIES_SIDE, "SERIES_STRIPS": math.lcm(columns_a_chunk, SERIES_SIDE) // columns_a_chunk, "MISSING": MISSING, "MONTHS": MONTHS,
-             "MAPS": MAPS, "MAPS_A_CHUNK": MAPS_A_CHUNK, "MAP_ROWS": MAP[0], "MAP_COLUMNS": MAP[1],
-             "HOURS": HOURS, "HOURS_A_CHUNK": HOURS_A_CHUNK, "HOURS_A_DAY": HOURS_A_DAY}
-    return [f"-D{name}={size}" for name, size in sizes.items()]
+    return {"DAYS_A_CHUNK": DAYS_A_CHUNK, "ROWS": rows, "COLUMNS": columns, "COLUMNS_A_CHUNK": columns_a_chunk, "CLIMATE_DAYS": CLIMATE_DAYS,
+            "SERIES_SIDE": SERIES_SIDE, "SERIES_STRIPS": math.lcm(columns_a_chunk, SERIES_SIDE) // columns_a_chunk, "MISSING": MISSING, "MONTHS": MONTHS,
+            "MAPS": MAPS, "MAPS_A_CHUNK": MAPS_A_CHUNK, "MAP_ROWS": MAP[0], "MAP_COLUMNS": MAP[1],
+            "HOURS": HOURS, "HOURS_A_CHUNK": HOURS_A_CHUNK, "HOURS_A_DAY": HOURS_A_DAY}
 
 
 def compiled_loops(folder):
     """The path of the plain loops, which are compiled into this folder, or nothing where there is no compiler."""
-    if not shutil.which("cc"):
-        print("there is no cc, so no plain loops are measured")
-        return None
-    program = os.path.join(folder, "day")
-    subprocess.run(["cc", "-O3", f"-march={processor.best()}", *definitions(), os.path.join(HERE, "day.c"), "-o", program], check=True)
-    return program
+    return programs.compiled_loops("day", definitions(), folder)
 
 
 def stored_files(top):

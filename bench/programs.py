@@ -1,4 +1,4 @@
-"""The small programs that benchmarks write, prove and build, and how they are run and compared with NumPy."""
+"""The small programs that benchmarks write, prove and build, and how they are run and compared with NumPy; and the plain loops in C."""
 import argparse
 import hashlib
 import os
@@ -119,6 +119,17 @@ def program_in(keep, name, needs, sources, cpu=None):
         shutil.copy(os.path.join(crate, "out", name), kept + ".new")
         os.rename(kept + ".new", kept)
         return kept
+
+
+def compiled_loops(name, definitions, folder):
+    """The path of the plain loops of this name, which are compiled into a folder, or nothing where there is no compiler."""
+    if not shutil.which("cc"):
+        print("there is no cc, so no plain loops are measured")
+        return None
+    program = os.path.join(folder, name)
+    words = [f"-D{one}={value}" for one, value in definitions.items()]
+    subprocess.run(["cc", "-O3", f"-march={processor.best()}", *words, os.path.join(HERE, f"{name}.c"), "-o", program], check=True)
+    return program
 
 
 def pinned(number):

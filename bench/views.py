@@ -1,7 +1,7 @@
 #!/usr/bin/env python3
 """Computes views of int32 arrays of 256 MiB in chunks of 4 MiB with the program and with NumPy chunk by chunk.
 
-  views.py [--program FILE] [--dir FOLDER] [--runs N] [--python FILE] [--mebibytes N] [--fusion 1|2] [--only WORD..]
+  views.py [--program FILE] [--dir FOLDER] [--runs N] [--workers N] [--c] [--python FILE] [--mebibytes N] [--fusion 1|2] [--only WORD..]
 
 Each view is computed by one operation: a slice with step 1, a concat of two halves, a transposition, a flip, a triangle, a roll, and
 arrays that are made, which are compared with storing such chunks alone. For each chunk of the result NumPy reads each chunk of which it
@@ -15,6 +15,12 @@ and Dask, where --python has it, goes over the same chunk files with one thread 
 NumPy and the program put each chunk in place by a synced new file that is renamed; Dask writes as zarr does, without a sync. Which comes
 first changes at each round, and the least time of each is kept; the outputs are compared byte by byte. It prints times and ratios, and
 last which of the aims were missed: in the folder in memory where there is one, since nothing else than the view is to be measured.
+
+With --workers it computes the views along strides alone, by one worker and by so many, and with --c beside them by plain loops in C (views.c,
+in this folder), by one process and by as many. The loops go over the same chunk files, one nest over the axes of each chunk's view, and sync
+each file before its rename. Which comes first changes at each round, and what they store is compared byte by byte with what the program has.
+It prints the least times, how many times as fast the workers are as one and the processes as one, and how much of this gain the workers
+have, by the least times and by the median of the rounds, and last where that misses its aim.
 """
 import argparse
 import itertools
@@ -28,6 +34,8 @@ import time
 import numpy
 
 sys.dont_write_bytecode = True
+import programs  # programs.py, in this folder, as is workers.py
+import workers
 from stored import (MIB, PROGRAM, can_import, clear, link_as_version_2, metadata, put, same_as_version_2, same_chunks, see_that_it_is_built, store,
                     store_by_dask, tell, timed)
 
@@ -37,6 +45,8 @@ TURNED = {"numpy": 0.5, "dask": 1.0}
 SIX = [12] * 6
 SIDE = 1024
 CHUNK = SIDE * SIDE
+# As many axes has the nest of loops in C.
+AXES = 6
 
 
 def read_chunk(folder, name, place, room):
@@ -158,6 +168,24 @@ def make_inputs(folder, chunks):
 
 # Views along strides
 
+def in_braces(*values):
+    """A value of several parts, as C has it."""
+    return "{" + ", ".join(map(str, values)) + "}"
+
+
+def loops_over(view):
+    """The size and the step, in elements, of each loop over a view, the outermost first. Axes that one step goes over have one loop, and
+    where there are fewer than six, those without a step come first."""
+    loops = []
+    for size, stride in zip(view.shape, view.strides):
+        step = stride // view.itemsize
+        if loops and loops[-1][1] == size * step:
+            loops[-1] = loops[-1][0] * size, step
+        elif size > 1:
+            loops.append((size, step))
+    return [(1, 0)] * (AXES - len(loops)) + loops
+
+
 class Strided:
     """A view of `s`, whose chunks of this shape stand along one axis (`along`): the operator, its members for so many chunks, the view of a
     chunk by NumPy and of the whole by Dask. The result's chunks stand along an axis too (`axis`), and the other way if it is turned."""
@@ -192,6 +220,15 @@ class Strided:
 
     def at(self, axis, rank, number):
         return [number if place == axis else 0 for place in range(rank)]
+
+    def in_c(self, name):
+        """The view as views.c has it."""
+        room = numpy.empty(self.chunk, "int32")
+        view = self.of_chunk(room)
+        first = (view.ctypes.data - room.ctypes.data) // room.itemsize
+        sizes, steps = zip(*loops_over(view))
+        return in_braces(json.dumps(name), "along_strides", room.size, view.size, in_braces(room.ndim, self.along), in_braces(view.ndim, self.axis),
+                         int(self.is_turned), first, in_braces(*sizes), in_braces(*steps))
 
 
 def stretched(axis, count):
@@ -289,6 +326,18 @@ STRIDED = {
     "a + a in chunks of 1 KiB": Doubled()}
 
 
+def definitions():
+    """The views of one chunk each and the sizes of the others, by their names in C."""
+    rows, columns = Series.COLUMNS
+    return {"AXES": AXES, "ROWS": rows, "COLUMNS": columns, "TIMES": Series.TIMES, "ELEMENTS": Doubled.ELEMENTS,
+            "STRIDED": ", ".join(view.in_c(name) for name, view in STRIDED.items() if isinstance(view, Strided))}
+
+
+def compiled_loops(folder):
+    """The path of the plain loops, which are compiled into this folder, or nothing where there is no compiler."""
+    return programs.compiled_loops("views", definitions(), folder)
+
+
 # What each way stores.
 MADE = {"cubed": ("y", "_cubed"), "numpy": ("numpy",), "dask": ("dask",)}
 
@@ -333,6 +382,18 @@ def measure_strided(given, name, view):
     return tell(name, runs, view.aims)
 
 
+def measure_gain(given, name, view):
+    """Measures what several workers gain over one in a view along strides. Returns the aims that were missed."""
+    count = view.count(given.mebibytes)
+    with tempfile.TemporaryDirectory(dir=given.dir, prefix="cubed-bench-") as folder:
+        view.make_input(folder, count)
+        ways = workers.ways_of_program(given, folder, view.words)
+        if given.loops:
+            ways.update(workers.ways_of_loops(given, folder, name, count))
+        told = workers.measure(given, ways, folder, name, view.expression(count))
+    return workers.tell(given, name, told, {})
+
+
 def run_peer(peer, name, folder, count):
     """What a peer does; the seconds that it takes."""
     if peer == "dask":
@@ -344,11 +405,41 @@ def run_peer(peer, name, folder, count):
     return time.perf_counter() - start
 
 
+def is_wanted(given, name):
+    return not given.only or any(word in name for word in given.only)
+
+
+def measure_beside_peers(given):
+    """Measures all views beside NumPy, and those along strides beside Dask. Returns the aims that were missed."""
+    given.has_dask = can_import(given.python, "dask.array", "zarr")
+    chunks, missed = given.mebibytes // 4, []
+    with tempfile.TemporaryDirectory(dir=given.dir, prefix="cubed-bench-") as folder:
+        texts = {name: text for name, text in expressions(chunks).items() if is_wanted(given, name)}
+        if texts:
+            make_inputs(folder, chunks)
+        for name, text in texts.items():
+            missed += measure(given, folder, name, text, chunks)
+    for name, view in STRIDED.items():
+        missed += measure_strided(given, name, view) if is_wanted(given, name) else []
+    return missed
+
+
+def measure_gains(given):
+    """Measures what several workers gain in the views along strides. Returns the aims that were missed."""
+    print(f"{given.workers} workers on {os.cpu_count()} processors, views of {given.mebibytes} MiB, the least of {given.runs} runs,"
+          f" in {given.dir}, load {os.getloadavg()[0]:.1f}")
+    with tempfile.TemporaryDirectory(prefix="cubed-build-") as made:
+        given.loops = compiled_loops(made) if given.c else None
+        return [one for name, view in STRIDED.items() if is_wanted(given, name) for one in measure_gain(given, name, view)]
+
+
 def main():
     words = argparse.ArgumentParser(description=__doc__, formatter_class=argparse.RawDescriptionHelpFormatter)
     words.add_argument("--program", default=PROGRAM)
     words.add_argument("--dir", default="/dev/shm" if os.path.isdir("/dev/shm") else tempfile.gettempdir())
     words.add_argument("--runs", type=int, default=5)
+    words.add_argument("--workers", type=int, default=1, help="how many workers; of several their gain is measured, of the views along strides alone")
+    words.add_argument("--c", action="store_true", help="with several workers, measure the gain of as many processes of plain loops in C too")
     words.add_argument("--python", default=sys.executable)
     words.add_argument("--mebibytes", type=int, default=256, choices=[16, 64, 256])
     words.add_argument("--fusion", type=int, choices=[1, 2], default=1, help="the version of the program's plans")
@@ -360,18 +451,10 @@ def main():
         print(run_peer(peer, name, folder, int(count)))
         return
     given.program = os.path.abspath(given.program)
+    if given.c and given.workers == 1:
+        words.error("--c goes with several --workers")
     see_that_it_is_built(given.program)
-    given.has_dask = can_import(given.python, "dask.array", "zarr")
-    wanted = lambda name: not given.only or any(word in name for word in given.only)
-    chunks, missed = given.mebibytes // 4, []
-    with tempfile.TemporaryDirectory(dir=given.dir, prefix="cubed-bench-") as folder:
-        texts = {name: text for name, text in expressions(chunks).items() if wanted(name)}
-        if texts:
-            make_inputs(folder, chunks)
-        for name, text in texts.items():
-            missed += measure(given, folder, name, text, chunks)
-    for name, view in STRIDED.items():
-        missed += measure_strided(given, name, view) if wanted(name) else []
+    missed = measure_gains(given) if given.workers > 1 else measure_beside_peers(given)
     print("missed: " + "; ".join(missed) if missed else "no aim was missed")
 
 
