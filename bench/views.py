@@ -441,7 +441,7 @@ def main():
     words.add_argument("--workers", type=int, default=1, help="how many workers; of several their gain is measured, of the views along strides alone")
     words.add_argument("--c", action="store_true", help="with several workers, measure the gain of as many processes of plain loops in C too")
     words.add_argument("--python", default=sys.executable)
-    words.add_argument("--mebibytes", type=int, default=256, choices=[16, 64, 256])
+    words.add_argument("--mebibytes", type=int, default=256, choices=[16, 64, 256, 1024])
     words.add_argument("--fusion", type=int, choices=[1, 2], default=1, help="the version of the program's plans")
     words.add_argument("--only", nargs="*", help="the views whose names have one of these words")
     words.add_argument("--peer", nargs=4, help=argparse.SUPPRESS)

@@ -1,4 +1,5 @@
 pub mod Buffers
 pub mod RowSteps
+pub mod Sums
 pub mod Taking
 pub mod Truths

@@ -1,10 +1,11 @@
 -- Rows of elements, and a row of results that takes them.
-use Rattle.std.proofs.Common.{◌≡◌, ◌≢◌, ℕ, ◌+◌, ◌*◌, ◌<◌, ◌≤◌, ℤ, to_z, of_z, pos, negsuc, neg_ℤ, ◌+ℤ◌, ◌≤ℤ◌, ◌^◌, List, [], ◌∷◌, ◌++◌, map, length, inl, inr, refl, sym, ap, ◌∙◌, subst, arith, ⊎_elim}
+use Rattle.std.proofs.Common.{◌≡◌, ◌≢◌, ℕ, ◌+◌, ◌-◌, ◌*◌, ◌<◌, ◌≤◌, ℤ, to_z, of_z, pos, negsuc, neg_ℤ, ◌+ℤ◌, ◌≤ℤ◌, ◌^◌, List, [], ◌∷◌, ◌++◌, map, length, inl, inr, refl, sym, ap, ◌∙◌, subst, arith, ⊎_elim}
 use Rattle.std.specs.List.{range_with_len}
 use Rattle.std.specs.Int.{w32}
 use Rattle.std.specs.Prelude.{FitsSigned}
 use Rattle.std.proofs.lemmas.Int.{ints, to_z-of_z}
 use Rattle.std.proofs.lemmas.Bool.{cases_lt}
+use Rattle.std.proofs.lemmas.List.FromFn.{map-range_with_len_more}
 use Rattle.cu_num.specs.Dtype.{size_of, InRange}
 use Rattle.cu_num.specs.Wrap.{wrapped}
 use Rattle.cu_num.specs.Element.{element_at, element_bytes, bytes_at}
@@ -18,11 +19,12 @@ use Rattle.cu_num.specs.declared.folds.FoldKind.TheVariants.{Sum}
 use Rattle.cu_reduce.specs.Kinds.{combined, Accumulates}
 use Rattle.cu_reduce.specs.Running.{running}
 use Rattle.cu_reduce.proofs.Combined.{taken_in_range}
-use Rattle.cu_reduce.proofs.Folding.{running_fold, running_in_range, wrapped_second}
+use Rattle.cu_reduce.specs.Folds.{exact_sum}
+use Rattle.cu_reduce.proofs.Folding.{fold_append, running_fold, running_in_range, wrapped_second}
 use Rattle.cu_reduce.proofs.Ranges.{range_append, map_ranges, map-append}
 use Rattle.cu_take.specs.Taken.{HasTaken, IsOutside, elements_at_places, column}
 use Rattle.cu_take.proofs.Buffers.{number_read}
-use Rattle.cu_take.proofs.Taking.{taken_element, takes_more, takes_same}
+use Rattle.cu_take.proofs.Taking.{taken_element, takes_more, takes_none, takes_same}
 
 -- ---- one result
 
@@ -135,6 +137,25 @@ short_range t.Uint16 x h f = (omega (arith, ints, f.0, f.1), omega (arith, ints,
 short_range t.Uint32 x h f = absurd (omega arith)
 short_range t.Uint64 x h f = absurd (omega arith)
 
+-- ---- a column of elements, and their sum
+
+added_last : (x y : ℤ) → x +ℤ (y +ℤ pos 0) ≡ x +ℤ y
+added_last x y = omega (arith, ints)
+
+-- one element more
+pub column_sum : (t : Dtype) (bytes : List ℕ) (place width k j : ℕ)
+    → exact_sum (elements_at_places t bytes (column place width (k + 1) j))
+    ≡ exact_sum (elements_at_places t bytes (column place width k j))
+    +ℤ element_at Little t bytes (place + k * width + j)
+column_sum t bytes place width k j =
+    let f : ℕ → ℕ = λ n. place + n * width + j in
+    let element : ℕ → ℤ = λ p. element_at Little t bytes p in
+    let xs = elements_at_places t bytes (column place width k j) in
+    ap (λ ps. exact_sum (map element ps)) (map-range_with_len_more f 0 k k
+    (let e : 0 + k ≡ k = omega arith in e))
+    ∙ ap exact_sum (map-append element (column place width k j) (f k ∷ []))
+    ∙ fold_append Sum xs (element (f k) ∷ []) tt tt ∙ added_last (exact_sum xs) (element (f k))
+
 -- ---- a row of results
 
 -- results before number j have taken theirs, and no other has changed
@@ -168,7 +189,36 @@ row_more kind acc old mid new q xs j h g others = record {
       o;
 }
 
+-- so many results more
+pub results_more : (kind : FoldKind) (acc : Dtype) (old mid new : List ℕ) (q : ℕ)
+    (xs : ℕ → List ℤ) (j n : ℕ) → RowTaken kind acc old mid q xs j
+    → ((i : ℕ) → i < n → HasTaken kind acc mid new (q + j + i) (xs (j + i)))
+    → ((p : ℕ) → IsOutside (q + j) (q + j + n) p → bytes_at acc new p ≡ bytes_at acc mid p)
+    → RowTaken kind acc old new q xs (j + n)
+results_more kind acc old mid new q xs j n h g others = record {
+  done = λ i b. ⊎_elim
+      (λ less. takes_same kind acc old new old mid (q + i) (q + i) (xs i) refl
+      (others (q + i) (inl (omega arith))) (h.done i less))
+      (λ past. let k = i - j in
+      let at : q + j + k ≡ q + i = omega arith in
+      let own : j + k ≡ i = omega arith in
+      let taken : HasTaken kind acc mid new (q + i) (xs i) =
+      subst (λ m. HasTaken kind acc mid new (q + i) (xs m)) own
+      (subst (λ p. HasTaken kind acc mid new p (xs (j + k))) at (g k (omega arith))) in
+      takes_same kind acc old new mid new (q + i) (q + i) (xs i)
+      (sym (h.left (q + i) (inr (omega arith)))) refl taken)
+      (cases_lt i j);
+  left = λ p o. ⊎_elim
+      (λ less. others p (inl (omega arith)) ∙ h.left p (inl less))
+      (λ past. others p (inr (omega arith)) ∙ h.left p (inr (omega arith)))
+      o;
+}
+
 -- ---- more rows
+
+pub no_rows : (kind : FoldKind) (from acc : Dtype) (input old : List ℕ) (q place width j : ℕ)
+    → HasTaken kind acc old old q (elements_at_places from input (column place width 0 j))
+no_rows kind from acc input old q place width j = takes_none kind acc old old q refl
 
 pub column_one : (place width j : ℕ) → (place + j) ∷ [] ≡ column place width 1 j
 column_one place width j = ap (λ p. p ∷ []) (let e : place + j ≡ place + 0 * width + j =
@@ -187,6 +237,12 @@ column_four place width j =
 pub rows_left : (place width k left : ℕ) → place + k * width + left * width
     ≡ place + (k + left) * width
 rows_left place width k left = omega arith
+
+pub column_later : (place step count j i : ℕ) → column (place + j) step count i
+    ≡ column place step count (j + i)
+column_later place step count j i = map_ranges (λ k. place + j + k * step + i)
+    (λ k. place + k * step + (j + i)) 0 0 count (λ k b. let e : place + j + (0 + k) * step + i
+    ≡ place + (0 + k) * step + (j + i) = omega arith in e)
 
 pub column_more : (place width m n j : ℕ)
     → column place width (m + n) j ≡ column place width m j ++ column (place + m * width) width n j

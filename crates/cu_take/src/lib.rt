@@ -1,6 +1,7 @@
 //! One element, or rows of them, taken into results, and what a result begins with.
 #![tactic(auto)]
 
+mod eights;
 mod rows;
 mod steps;
 mod units;

@@ -7,6 +7,7 @@ ghost use Rattle.cu_reduce.specs.Kinds.{Accumulates};
 ghost use Rattle.cu_reduce.specs.Running.{running};
 ghost use Rattle.cu_take.specs.Taken.{HasTaken, IsOutside, elements_at_places, column};
 
+use crate::eights::add_eights;
 use crate::steps::{joined, take_one};
 use cu_num::{Dtype, FoldKind, load, save, size, wrap};
 
@@ -140,7 +141,7 @@ fn take_four_elements(
 
 /// Takes one row into the row of results.
 #[inline(always)]
-fn take_row(
+pub(crate) fn take_row(
     kind: FoldKind,
     from: Dtype,
     acc: Dtype,
@@ -219,6 +220,38 @@ fn take_first_rows(
     1
 }
 
+/// Takes the first rows into the row of results, eight at a time, where that is quicker: in sums of
+/// elements of at most 16 bits, of rows that have enough elements. Returns how many rows it took.
+#[inline(always)]
+#[tactic(auto, using(crate::proofs::RowSteps::no_rows))]
+fn take_eights(
+    kind: FoldKind,
+    from: Dtype,
+    acc: Dtype,
+    rows: RowBlock,
+    input: &[u8],
+    place: usize,
+    out: &mut [u8],
+    q: usize,
+) -> usize
+    requires input { (place + rows.count * rows.width) * size_of from ≤ length input.now }
+    requires out { (q + rows.width) * size_of acc ≤ length out.old }
+    ensures within { result ≤ rows.count }
+    ensures takes { (j : ℕ) → j < rows.width → HasTaken kind acc out.old out.new (q + j)
+        (elements_at_places from input.now (column place rows.width result j)) }
+    ensures others { (p : ℕ) → IsOutside q (q + rows.width) p
+        → bytes_at acc out.new p ≡ bytes_at acc out.old p }
+{
+    if kind == FoldKind::Sum
+        && size(from) <= 2
+        && rows.width >= 32 * size(from) as usize
+        && rows.count >= 8
+    {
+        return add_eights(from, acc, rows, input, place, out, q);
+    }
+    0
+}
+
 /// Takes rows of elements of type `from`, which begin at element `place` of `input`, into one row
 /// of results of type `acc`, which begins at result `q` of `out`: each element into the result that
 /// has its place in the row.
@@ -241,7 +274,7 @@ pub fn take_rows(
     ensures others { (p : ℕ) → IsOutside q (q + rows.width) p
         → bytes_at acc out.new p ≡ bytes_at acc out.old p }
 {
-    let mut k = 0;
+    let mut k = take_eights(kind, from, acc, rows, input, place, out, q);
     while k < rows.count {
         let left = RowBlock {
             count: rows.count - k,

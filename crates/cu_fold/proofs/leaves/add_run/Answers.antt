@@ -11,7 +11,8 @@ use Rattle.cu_num.proofs.ElementBytes.{bytes_at-written_at_other, length-element
 use Rattle.cu_reduce.specs.Folds.{exact_sum}
 use Rattle.cu_take.specs.Taken.{elements_at_places}
 use Rattle.cu_take.proofs.Taking.{takes_one}
-use Rattle.cu_fold.proofs.NarrowSums.{narrow_number, sum_more, sum_together}
+use Rattle.cu_take.proofs.Sums.{sum_together}
+use Rattle.cu_fold.proofs.NarrowSums.{narrow_number, sum_more}
 use Rattle.cu_fold.proofs.leaves.add_run.Goals as goal
 
 pub loop-at-preserved : goal.loop-at-preserved

@@ -1,0 +1,16 @@
+use Rattle.std.proofs.Common.{◌≡◌, ◌-◌, ◌≤◌, length}
+use Rattle.cu_num.specs.declared.folds.FoldKind.TheVariants.{Sum}
+use Rattle.cu_take.specs.Taken.{elements_at_places, column}
+use Rattle.cu_take.proofs.RowSteps.{RowTaken}
+use Rattle.cu_take.proofs.eights.add_eight_rows.Given as goal
+
+abbrev pub invariant-loop-j : goal.invariant-loop-j
+invariant-loop-j l = record {
+  same_length : length l.out ≡ length l.fn.out;
+  within : l.j ≤ l.width;
+  row : RowTaken Sum l.acc l.fn.out l.out l.q (λ i. elements_at_places l.from l.input
+      (column l.place l.width 8 i)) l.j;
+}
+
+abbrev pub decreases-loop-j : goal.decreases-loop-j
+decreases-loop-j l = l.width - l.j
