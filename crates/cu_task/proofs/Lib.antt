@@ -1,5 +1,8 @@
 pub mod Allowed
+pub mod ChunkParts
+pub mod ChunkReads
 pub mod ChunkRegions
+pub mod CopyByChunks
 pub mod CopyTask
 pub mod Counting
 mod Examples
@@ -15,6 +18,11 @@ pub mod MapTask
 pub mod MatrixBlocks
 pub mod MatrixTask
 pub mod OwnRegions
+pub mod PartCells
+pub mod PartGroups
+pub mod PartMerges
+pub mod PartPlaces
+pub mod PartReads
 pub mod PartialFolds
 pub mod PartialRegions
 pub mod PartialTasks
@@ -23,6 +31,7 @@ pub mod PullTask
 pub mod ReadRegions
 pub mod ReductionTask
 pub mod ReshapedChunks
+pub mod RowReads
 pub mod ScanTask
 pub mod SearchTask
 pub mod Serving
@@ -31,6 +40,7 @@ pub mod StraightReads
 pub mod StripBytes
 pub mod StripTask
 pub mod SumTasks
+pub mod Tails
 pub mod TaskKinds
 pub mod TaskRegions
 pub mod TaskRooms

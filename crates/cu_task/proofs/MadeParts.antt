@@ -14,14 +14,13 @@ use Rattle.cu_task.proofs.TaskRegions.{target_written}
 use Rattle.cu_task.specs.OfTask.{held_inputs, stored_elements, HasMade, HoldsFor}
 use Rattle.cu_task.specs.Task.{IsTaskFault}
 use Rattle.cu_task.specs.TaskRoom.{HasMadeAll}
-use Rattle.cu_task.specs.declared.room.TaskRoom.{TaskRoom}
 use Rattle.std.proofs.Common.{◌≡◌, ℕ, zero, suc, ◌+◌, ◌<◌, ◌≤◌, List, [], ◌∷◌, length, drop, None, get_or, refl, ap, sym, ◌∙◌, arith}
 
 -- what is made of the elements that are held now is made of those that were held at first
-pub alike_made : (t : TaskView) (s : Sound t.plan) (held : Contents) (shown : Shown) (room : TaskRoom) → ((b : ℕ) → ReadsByChunk t.plan.arrays (task_op t) b → ⊥) → value_array (task_op t) ≡ None
-    → (still : HoldsFor t held shown) → HasMade t (stored_elements t still.now) room.output.now → HasMadeAll t (held_inputs t held) room
-alike_made t s held shown room never only still made = record {
-  output = stored_alike t.plan s t.op t.number (target_of (task_op t)) t.operation t.within (target_written (task_op t)) never held still.now still.same room.output.now made;
+pub alike_made : (t : TaskView) (s : Sound t.plan) (held : Contents) (shown : Shown) (found made : List ℕ) → ((b : ℕ) → ReadsByChunk t.plan.arrays (task_op t) b → ⊥) → value_array (task_op t) ≡ None
+    → (still : HoldsFor t held shown) → HasMade t (stored_elements t still.now) made → HasMadeAll t (held_inputs t held) found made
+alike_made t s held shown found made never only still has = record {
+  output = stored_alike t.plan s t.op t.number (target_of (task_op t)) t.operation t.within (target_written (task_op t)) never held still.now still.same made has;
   values = λ array is. absurd (none_stored array (sym only ∙ is));
 }
 

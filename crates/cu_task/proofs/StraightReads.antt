@@ -13,10 +13,9 @@ use Rattle.cu_num.proofs.ElementBytes.{InRange-element_at}
 use Rattle.cu_shape.specs.Index.{product, place_of, quotients, remainders, sums, products, differences, IsInside}
 use Rattle.cu_shape.proofs.Axes.{axis_by_axis_from, get_or-axis_by_axis, length-axis_by_axis}
 use Rattle.cu_shape.proofs.Places.{place-below}
-use Rattle.cu_grid.specs.Counts.{IsWithin, chunk_lo}
+use Rattle.cu_grid.specs.Counts.{IsWithin}
 use Rattle.cu_grid.specs.declared.region.Region.{Region}
 use Rattle.cu_grid.proofs.Meeting.{within_from, within_of}
-use Rattle.cu_grid.proofs.Regions.{coordinate-length}
 use Rattle.cu_codec.specs.Parts.{part_at, place_within}
 use Rattle.cu_codec.proofs.Shared.{within_sizes}
 use Rattle.cu_origin.specs.declared.provenance.Provenance.TheVariants.{From}
@@ -27,7 +26,6 @@ use Rattle.cu_store.specs.Steps.{Shown, NoChange, Steps}
 use Rattle.cu_region.specs.Reading.{HasChunk, HasFront, bytes_of}
 use Rattle.cu_region.specs.Writing.{AreElements}
 use Rattle.cu_view.specs.Pieces.{IsShown, IsNumbered}
-use Rattle.cu_view_box.specs.declared.block.Block.{Block}
 use Rattle.cu_view_box.specs.Piece.{count_along, read_at, HaveRanks}
 use Rattle.cu_view_box.specs.Way.{read_by}
 use Rattle.cu_view_box.specs.declared.piece.Piece.{Piece}
@@ -41,7 +39,7 @@ use Rattle.cu_task.specs.Straight.{IsShift, ReadsFromOn, ReadsFrom, IsShifted, I
 use Rattle.cu_task.specs.ViewJobs.{IsSourceChunk, HaveComeFrom, made_in, buffer_room, view_task_of}
 use Rattle.cu_task.specs.Views.{source_in, IsSourceKey, IsKnown}
 use Rattle.cu_task.specs.declared.views.SourceChunk.{SourceChunk}
-use Rattle.cu_task.proofs.JobViews.{fitting, source_grid, origin_passed}
+use Rattle.cu_task.proofs.JobViews.{fitting, origin_passed}
 use Rattle.cu_task.proofs.ViewChunks.{origin_inside, same_index}
 use Rattle.cu_task.proofs.ViewElements.{IsInFront, known_later, converts_range, has_element}
 
@@ -112,16 +110,15 @@ up_shift axis start step from count first one low same = record {
 
 -- what a piece of the source reads, as the view's rule
 pub is_shifted : (chunk : SourceChunk) → IsSourceChunk chunk → (shape : List ℕ) → shape ≡ (grid_at (view_task_of chunk.job.now).arrays (view_task_of chunk.job.now).out).shape
-    → (out part : Region) → out.lo ≡ (view_task_of chunk.job.now).lo → out.hi ≡ (view_task_of chunk.job.now).hi → part.lo ≡ chunk_lo (source_in (view_task_of chunk.job.now) chunk.source).layout.grid.chunk chunk.coord
+    → (out part : Region) → out.lo ≡ (view_task_of chunk.job.now).lo → out.hi ≡ (view_task_of chunk.job.now).hi
     → (number : ℕ) (piece : Piece) → IsNumbered chunk.job.now.pull.now chunk.job.now.shapes.now shape number piece → piece.source ≡ chunk.source → ((idx : List ℕ) → IsShown chunk.job.now.pull.now idx)
-    → ReadsFrom piece out part.lo → IsShifted chunk
-is_shifted chunk h shape es out part low high first number piece numbered same shown reads idx w =
+    → ReadsFrom piece out part.lo → IsShifted chunk part.lo
+is_shifted chunk h shape es out part low high number piece numbered same shown reads idx w =
     let v = view_task_of chunk.job.now in
     let within : IsWithin out.lo out.hi idx = rw (low, high) w in
     let r = reads idx within in
     sym (origin_passed chunk.job.now h.job shape es idx) ∙ numbered.comes idx r.0 (shown idx) ∙ ap (λ (k : ℕ). From k (read_at piece idx)) same
-    ∙ ap (λ (i : List ℕ). From chunk.source i) (r.1 ∙ ap (λ (x : List ℕ). sums x (differences idx out.lo)) first
-    ∙ ap (λ (x : List ℕ). sums (chunk_lo (source_in (view_task_of chunk.job.now) chunk.source).layout.grid.chunk chunk.coord) (differences idx x)) low)
+    ∙ ap (λ (i : List ℕ). From chunk.source i) (r.1 ∙ ap (λ (x : List ℕ). sums part.lo (differences idx x)) low)
 
 pub straight_from : (chunk : SourceChunk) (a made : ArrayInfo) → a ≡ source_in (view_task_of chunk.job.now) chunk.source → made ≡ made_in (view_task_of chunk.job.now)
     → a.layout.dtype ≡ made.layout.dtype → IsInOrder chunk → IsStraight chunk
@@ -134,7 +131,7 @@ pub if_err_then : {T E : Type 0} {P Q : E → Type 0} (r : Result T E) → ((e :
 if_err_then (Ok x) f p = tt
 if_err_then (Err e) f p = f e p
 
--- ---- the elements of a region that is shifted, as those of the chunk
+-- ---- places in a chunk
 
 -- an index of a chunk by how far it is from the chunk's first
 pub shifted_place : (chunk coord r : List ℕ) → length coord ≡ length chunk → IsInside chunk r → (quotients (sums (products coord chunk) r) chunk ≡ coord) × (remainders (sums (products coord chunk) r) chunk ≡ r)
@@ -146,28 +143,6 @@ shifted_place (c ∷ chunk) (q ∷ coord) [] rank inside = absurd inside
 shifted_place (c ∷ chunk) (q ∷ coord) (x ∷ r) rank inside =
     let rest = shifted_place chunk coord r (omega arith) inside.1 in
     (rw (div-mul-add q c x inside.0, rest.0) refl, rw (mod-mul-add q c x inside.0, rest.1) refl)
-
-pub in_order : (chunk : SourceChunk) → IsSourceChunk chunk → (a : ArrayInfo) (to : Block) → a ≡ source_in (view_task_of chunk.job.now) chunk.source
-    → to.dims ≡ differences (view_task_of chunk.job.now).hi (view_task_of chunk.job.now).lo → to.dims ≡ a.layout.grid.chunk → IsShifted chunk → IsInOrder chunk
-in_order chunk h a to from dims equal shifted =
-    let sizes : differences (view_task_of chunk.job.now).hi (view_task_of chunk.job.now).lo ≡ (source_in (view_task_of chunk.job.now) chunk.source).layout.grid.chunk
-    = sym dims ∙ equal ∙ ap (λ (x : ArrayInfo). x.layout.grid.chunk) from in
-    let ok = source_grid chunk.job.now h.job chunk.source h.source in
-    let rank = coordinate-length (source_in (view_task_of chunk.job.now) chunk.source).layout.grid chunk.coord ok h.coordinate ∙ sym ok.ranks in
-    record {
-      count = ap product sizes;
-      stands = λ idx w.
-          let inside : IsInside (source_in (view_task_of chunk.job.now) chunk.source).layout.grid.chunk (differences idx (view_task_of chunk.job.now).lo)
-          = subst (λ (x : List ℕ). IsInside x (differences idx (view_task_of chunk.job.now).lo)) sizes (within_sizes (view_task_of chunk.job.now).lo (view_task_of chunk.job.now).hi idx w) in
-          let at = shifted_place (source_in (view_task_of chunk.job.now) chunk.source).layout.grid.chunk chunk.coord (differences idx (view_task_of chunk.job.now).lo) rank inside in
-          record {
-            index = sums (chunk_lo (source_in (view_task_of chunk.job.now) chunk.source).layout.grid.chunk chunk.coord) (differences idx (view_task_of chunk.job.now).lo);
-            origin = shifted idx w;
-            part = at.0;
-            place = ap (λ (x : List ℕ). place_of x (differences idx (view_task_of chunk.job.now).lo)) sizes
-                ∙ ap (place_of (source_in (view_task_of chunk.job.now) chunk.source).layout.grid.chunk) (sym at.1);
-          };
-    }
 
 -- ---- what is read
 

@@ -2,8 +2,10 @@ pub mod Asks
 pub mod Blocks
 pub mod ByLabels
 pub mod Calls
+pub mod ChunkCopies
 pub mod Inputs
 pub mod Inside
+pub mod Merges
 pub mod OfTask
 pub mod Serving
 pub mod Straight

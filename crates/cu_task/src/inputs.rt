@@ -14,7 +14,7 @@ ghost use Rattle.cu_region.specs.Reading.{ReadsRegion};
 ghost use Rattle.cu_region.specs.Calls.{Made};
 ghost use Rattle.cu_region.specs.Writing.{AreElements};
 ghost use Rattle.cu_task.specs.Inputs.{walk_room, room_of_walks, lays_from, IsWalkKey, IsWalkFault};
-ghost use Rattle.cu_task.specs.OfTask.{read_bytes, weight_of_walk};
+ghost use Rattle.cu_task.specs.OfTask.{read_bytes, walks_from, weight_of_walk};
 ghost use Rattle.cu_task.specs.Task.{StillHolds};
 
 use arrayvec::ArrayVec;
@@ -97,6 +97,15 @@ pub(crate) fn input_bytes(task: &PlanTask<'_>) -> usize
     ensures { result ≡ read_bytes task.now }
 {
     room_of(task, task.input_walks())
+}
+
+/// The bytes of those from the one at a place on.
+pub(crate) fn bytes_from(task: &PlanTask<'_>, place: usize) -> usize
+    requires place { place ≤ length (walks_from task.now 0) }
+    requires small { room_of_walks task.now.plan.arrays (walks_from task.now place) < 2 ^ 64 }
+    ensures { result ≡ room_of_walks task.now.plan.arrays (walks_from task.now place) }
+{
+    room_of(task, &task.input_walks()[place..])
 }
 
 /// The bytes of the region of each walk together.

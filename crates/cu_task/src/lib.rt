@@ -1,6 +1,7 @@
 //! The tasks of a plan.
 #![tactic(auto)]
 
+mod chunk_copies;
 mod compute;
 mod conversions;
 mod copies;
@@ -10,12 +11,14 @@ mod inputs;
 mod laws;
 mod making;
 mod maps;
+mod merges;
 mod products;
 mod pulls;
 mod reductions;
 mod reshapes;
 mod results;
 mod room;
+mod rows;
 mod run;
 mod scans;
 mod searches;

@@ -142,7 +142,8 @@ fn write_both<C: Chunks>(
     requires own { IsOwnTask task.now }
     requires stored { value_array (task_op task.now) ≡ Some array }
     requires room { IsRoomOf task.now room.old }
-    requires elements { AreAllOfTheirTypes task.now room.old }
+    requires elements { AreAllOfTheirTypes task.now room.old.values.now
+        room.old.output.now }
     ensures open { StaysOpen (C.belongs store.now access.new) (C.may_get store.now access.old)
         (C.may_get store.now access.new) }
     ensures got { OnOk result (MayReadMade task.now (C.may_get store.now access.new)) }
@@ -180,7 +181,8 @@ pub(crate) fn write_results<C: Chunks>(
     requires puts { AllowsMade task.now room.old (C.may_put store.now) }
     requires own { IsOwnTask task.now }
     requires room { IsRoomOf task.now room.old }
-    requires elements { AreAllOfTheirTypes task.now room.old }
+    requires elements { AreAllOfTheirTypes task.now room.old.values.now
+        room.old.output.now }
     ensures open { StaysOpen (C.belongs store.now access.new) (C.may_get store.now access.old)
         (C.may_get store.now access.new) }
     ensures got { OnOk result (MayReadMade task.now (C.may_get store.now access.new)) }

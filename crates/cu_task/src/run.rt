@@ -15,6 +15,7 @@ ghost use Rattle.cu_task.specs.OfTask.{IsSure, MayRead, MayReadMade};
 ghost use Rattle.cu_task.specs.Task.{steps_within, HoldsCells, IsTaskFault};
 ghost use Rattle.cu_task.specs.Task.{IsTaskReady, TaskChange};
 
+use crate::chunk_copies::{copy_by_chunks, is_copied_by_chunks};
 use crate::making::make_result;
 use crate::results::write_results;
 use crate::room::TaskRoom;
@@ -68,8 +69,7 @@ pub fn run_task_of<C: Chunks>(
     run_plan_task::<C>(store, access, &PlanTask::make(plan, op, task), bytes, words)
 }
 
-/// The same of a task that is at hand: it parts what it is lent, and makes and stores its result
-/// in these parts.
+/// The same of a task that is at hand: it makes its result in what it is lent, and stores it.
 fn run_plan_task<C: Chunks>(
     store: &C::Store,
     access: &mut C::Access,
@@ -98,7 +98,10 @@ fn run_plan_task<C: Chunks>(
         → OnOk result (Adds (tally_of_task (C.weight store.now) task.now) (C.tally access.old) (C.tally access.new)) }
     ensures cause { IfErr result (IsOwnFault task.now (C.shown access.old) (C.shown access.new)) }
 {
-    let mut room = TaskRoom::split(task, bytes, words);
-    make_result::<C>(store, access, task, &mut room)?;
+    if is_copied_by_chunks(task) {
+        return copy_by_chunks::<C>(store, access, task, bytes);
+    }
+    make_result::<C>(store, access, task, bytes, words)?;
+    let mut room = TaskRoom::split(task, bytes);
     write_results::<C>(store, access, task, &mut room)
 }

@@ -1,22 +1,23 @@
-//! Regions of a view's result that are a chunk of a source as it stands: its elements, in its order.
+//! Regions of a view's result that are a chunk of a source as it stands, or a region of one.
 ghost use Rattle.std.specs.Prelude.{◌<◌, ℕ, List, IfSome, length};
 ghost use Rattle.std.specs.Bool.{OnTrue};
 ghost use Rattle.cu_view.specs.Pieces.{IsShown};
 ghost use Rattle.cu_view_box.specs.Piece.{HaveRanks};
-ghost use Rattle.cu_task.specs.Straight.{IsInOrder, IsShift, IsShifted, IsStraight};
+ghost use Rattle.cu_task.specs.Straight.{IsShift, IsShifted, IsStraight};
 ghost use Rattle.cu_task.specs.Straight.{ReadsFrom, ReadsFromOn};
-ghost use Rattle.cu_task.specs.ViewJobs.{IsSourceChunk};
+ghost use Rattle.cu_grid.specs.Counts.{IsRegion};
+ghost use Rattle.cu_task.specs.ViewJobs.{source_of_chunk, IsSourceChunk};
 
 use crate::reshapes::is_reshaped_chunk;
-use crate::views::{SourceChunk, chunk_part, made_array, result_block, source_array};
+use crate::views::{SourceChunk, made_array, source_array};
 use cu_grid::Region;
 use cu_origin::Pull;
 use cu_view::{piece_at, piece_count};
 use cu_view_box::{Piece, Way};
 
-/// Whether the region of the task is a chunk of a source as it stands there, so that the chunk can
-/// be read into the region's buffer. It may be false where it is so: of a view with more axes than
-/// its source or fewer that isn't a reshape, and of a reshape where the array's edge cuts the chunk.
+/// Whether the region of a reshape's task is a chunk of its source as it stands there, so that the
+/// chunk can be read into the region's buffer. It may be false where it is so, as the array's edge
+/// cuts the chunk.
 pub(crate) fn is_straight(chunk: &SourceChunk<'_>) -> bool
     requires { IsSourceChunk chunk.now }
     ensures { OnTrue result (IsStraight chunk.now) }
@@ -28,28 +29,17 @@ pub(crate) fn is_straight(chunk: &SourceChunk<'_>) -> bool
     }
     match chunk.job.pull {
         Pull::Reshape => is_reshaped_chunk(chunk),
-        _ => is_shifted_chunk(chunk),
+        _ => false,
     }
 }
 
-/// Whether the region has the chunk's sizes, and its elements are those of the source from the
-/// chunk's first index on.
-fn is_shifted_chunk(chunk: &SourceChunk<'_>) -> bool
-    requires { IsSourceChunk chunk.now }
-    ensures { OnTrue result (IsInOrder chunk.now) }
-{
-    let from = source_array(chunk.job, chunk.source);
-    let to = result_block(chunk.job);
-    if !to.dims.is(from.layout.grid.chunk()) {
-        return false;
-    }
-    is_shifted(chunk)
-}
-
-/// Whether the elements of the region are those of the source from the first index of a chunk on.
-fn is_shifted(chunk: &SourceChunk<'_>) -> bool
-    requires { IsSourceChunk chunk.now }
-    ensures { OnTrue result (IsShifted chunk.now) }
+/// Whether the elements of the region are those of the chunk's source from the first index of a
+/// region of that on. It may be false where it is so: of a view with more axes than its source or
+/// fewer, and of a reshape.
+pub(crate) fn is_shifted(chunk: &SourceChunk<'_>, part: &Region) -> bool
+    requires chunk { IsSourceChunk chunk.now }
+    requires part { IsRegion (source_of_chunk chunk.now).layout.grid.shape part.now.lo part.now.hi }
+    ensures { OnTrue result (IsShifted chunk.now part.now.lo) }
 {
     let job = chunk.job;
     let made = made_array(job);
@@ -65,8 +55,7 @@ fn is_shifted(chunk: &SourceChunk<'_>) -> bool
     if piece.source != chunk.source {
         return false;
     }
-    let part = chunk_part(chunk);
-    reads_from(&piece, job.task.region(), &part)
+    reads_from(&piece, job.task.region(), part)
 }
 
 /// The number of the first piece of a source, if it has any. A triangle's has other elements too.

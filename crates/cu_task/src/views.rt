@@ -1,5 +1,5 @@
 //! Tasks of views: the chunks of their sources that they need, read one at a time.
-ghost use Rattle.std.specs.Prelude.{◌≡◌, ℕ, ◌*◌, ◌<◌, ◌≤◌, true, Option, IsTrue, All, length, IfErr, OnOk};
+ghost use Rattle.std.specs.Prelude.{◌≡◌, ℕ, ◌+◌, ◌*◌, ◌-◌, ◌<◌, ◌≤◌, true, Option, IsTrue, All, length, IfErr, OnOk};
 ghost use Rattle.cu_num.specs.Dtype.{size_of};
 ghost use Rattle.cu_shape.specs.Index.{product, differences};
 ghost use Rattle.cu_store.specs.Faults.{Rose};
@@ -8,13 +8,15 @@ ghost use Rattle.cu_store.specs.Chunks.{Adds, Keeps, StaysOpen};
 ghost use Rattle.cu_task.specs.Asks.{MayReadSources};
 ghost use Rattle.cu_store.specs.Steps.{NoChange, Steps};
 ghost use Rattle.cu_op.specs.Kind.Pull.{shapes_at};
-ghost use Rattle.cu_region.specs.Reading.{key_at, IsChunkReadFault};
+ghost use Rattle.cu_region.specs.Reading.{key_at, HasFront, IsChunkReadFault};
 ghost use Rattle.cu_region.specs.Writing.{AreElements};
 ghost use Rattle.cu_task.specs.Views.{source_in, is_exact, source_calls, sure_calls, view_calls, IsSourceKey, IsKnown, HaveCome, IsAny, HasPulled};
-ghost use Rattle.cu_task.specs.ViewJobs.{IsViewJob, view_task_of, made_in, buffer_room, source_room, view_of_part, IsSourceRegion, IsSourceChunk, IsChunkRegion, view_of_chunk, source_of_chunk, room_for_chunk, IsKeyOfSource, is_needed_chunk, calls_for_chunk, HaveComeFrom, IsMovedFrom, HasHull, IsFront, IsViewFault};
-ghost use Rattle.cu_task.specs.Straight.{IsStraight};
+ghost use Rattle.cu_task.specs.ViewJobs.{IsViewJob, view_task_of, made_in, buffer_in, buffer_room, source_room, view_of_part, IsSourceRegion, IsSourceChunk, IsChunkRegion, view_of_chunk, source_of_chunk, room_for_chunk, IsKeyOfSource, is_needed_chunk, calls_for_chunk, HaveComeFrom, IsMovedFrom, HasHull, IsFront, IsViewFault};
+ghost use Rattle.cu_task.specs.Straight.{IsStraight, StandsFrom};
 ghost use Rattle.cu_task.specs.ViewJobs.{tally_for_chunk, tally_for_source, tally_for_sources, IsExactJob};
 
+use crate::results::result_bytes;
+use crate::rows::place_of_rows;
 use crate::straight::is_straight;
 use arrayvec::ArrayVec;
 use cu_grid::Region;
@@ -117,28 +119,28 @@ pub(crate) fn result_block(job: &ViewJob<'_>) -> Block
     }
 }
 
-/// Takes the elements of the region that come from the sources, one source after another, through `scratch`, which has
-/// the bytes of a chunk of each.
+/// Takes the elements of the region that come from the sources, one source after another, to the
+/// end of `room`. Before them it has the bytes of a chunk of each, which are free.
 pub(crate) fn read_sources<C: Chunks>(
     store: &C::Store,
     access: &mut C::Access,
     job: &ViewJob<'_>,
-    output: &mut [u8],
-    scratch: &mut [u8],
+    room: &mut [u8],
 ) -> Result<(), TaskFault>
     requires belongs { C.belongs store.now access.old }
     requires may { MayReadSources (view_task_of job.now) (C.may_get store.now access.old) }
     requires job { IsViewJob job.now }
-    requires output { length output.old ≡ buffer_room (view_task_of job.now) }
-    requires scratch { (source : ℕ) → source < length job.now.ins.now
-        → source_room (view_task_of job.now) source ≤ length scratch.old }
+    requires room { (source : ℕ) → source < length job.now.ins.now
+        → source_room (view_task_of job.now) source + buffer_room (view_task_of job.now)
+        ≤ length room.old }
     ensures open { StaysOpen (C.belongs store.now access.new) (C.may_get store.now access.old)
         (C.may_get store.now access.new) }
     ensures pulled { (told : Option Contents)
         → ((source : ℕ) → source < length job.now.ins.now
         → IsKnown (IsSourceKey (view_task_of job.now) source) told (C.shown access.old))
-        → HasPulled (view_task_of job.now) 0 told output.old
-        → OnOk result (HasPulled (view_task_of job.now) (length job.now.ins.now) told output.new) }
+        → HasPulled (view_task_of job.now) 0 told (buffer_in (view_task_of job.now) room.old)
+        → OnOk result (HasPulled (view_task_of job.now) (length job.now.ins.now) told
+        (buffer_in (view_task_of job.now) room.new)) }
     ensures step { Steps NoChange 0 (view_calls (view_task_of job.now) (length job.now.ins.now))
         (C.shown access.old) (C.shown access.new) }
     ensures all { OnOk result (Rose
@@ -151,7 +153,7 @@ pub(crate) fn read_sources<C: Chunks>(
         (view_task_of job.now)) }
 {
     for source in 0..job.ins.len() as u32 {
-        read_source::<C>(store, access, job, source, output, scratch)?;
+        read_source::<C>(store, access, job, source, room)?;
     }
     Ok(())
 }
@@ -162,20 +164,20 @@ fn read_source<C: Chunks>(
     access: &mut C::Access,
     job: &ViewJob<'_>,
     source: u32,
-    output: &mut [u8],
-    scratch: &mut [u8],
+    room: &mut [u8],
 ) -> Result<(), TaskFault>
     requires belongs { C.belongs store.now access.old }
     requires may { Keeps (IsSourceKey (view_task_of job.now) source) (C.may_get store.now access.old) }
     requires job { IsViewJob job.now }
     requires source { source < length job.now.ins.now }
-    requires output { length output.old ≡ buffer_room (view_task_of job.now) }
-    requires scratch { source_room (view_task_of job.now) source ≤ length scratch.old }
+    requires room { source_room (view_task_of job.now) source + buffer_room (view_task_of job.now)
+        ≤ length room.old }
     ensures open { StaysOpen (C.belongs store.now access.new) (C.may_get store.now access.old)
         (C.may_get store.now access.new) }
     ensures takes { (told : Option Contents)
         → IsKnown (IsSourceKey (view_task_of job.now) source) told (C.shown access.old)
-        → OnOk result (HaveCome (view_task_of job.now) source IsAny told output.old output.new) }
+        → OnOk result (HaveCome (view_task_of job.now) source IsAny told
+        (buffer_in (view_task_of job.now) room.old) (buffer_in (view_task_of job.now) room.new)) }
     ensures step { Steps NoChange 0 (source_calls (view_task_of job.now) source)
         (C.shown access.old) (C.shown access.new) }
     ensures all { OnOk result (Rose
@@ -195,7 +197,7 @@ fn read_source<C: Chunks>(
                 source,
                 region,
             };
-            read_within::<C>(store, access, &part, output, scratch)
+            read_within::<C>(store, access, &part, room)
         }
     }
 }
@@ -221,21 +223,21 @@ fn read_within<C: Chunks>(
     store: &C::Store,
     access: &mut C::Access,
     part: &SourceRegion<'_>,
-    output: &mut [u8],
-    scratch: &mut [u8],
+    room: &mut [u8],
 ) -> Result<(), TaskFault>
     requires belongs { C.belongs store.now access.old }
     requires may { Keeps (IsSourceKey (view_of_part part.now) part.now.source)
         (C.may_get store.now access.old) }
     requires part { IsSourceRegion part.now }
-    requires output { length output.old ≡ buffer_room (view_of_part part.now) }
-    requires scratch { source_room (view_of_part part.now) part.now.source ≤ length scratch.old }
+    requires room { source_room (view_of_part part.now) part.now.source
+        + buffer_room (view_of_part part.now) ≤ length room.old }
     ensures open { StaysOpen (C.belongs store.now access.new) (C.may_get store.now access.old)
         (C.may_get store.now access.new) }
     ensures takes { (told : Option Contents)
         → IsKnown (IsSourceKey (view_of_part part.now) part.now.source) told (C.shown access.old)
-        → OnOk result (HaveCome (view_of_part part.now) part.now.source IsAny told output.old
-        output.new) }
+        → OnOk result (HaveCome (view_of_part part.now) part.now.source IsAny told
+        (buffer_in (view_of_part part.now) room.old)
+        (buffer_in (view_of_part part.now) room.new)) }
     ensures step { Steps NoChange 0 (source_calls (view_of_part part.now) part.now.source)
         (C.shown access.old) (C.shown access.new) }
     ensures all { OnOk result (Rose (sure_calls part.now.job.now.pull.now
@@ -256,7 +258,7 @@ fn read_within<C: Chunks>(
             coord,
             needed: part.region,
         };
-        read_piece::<C>(store, access, &chunk, output, scratch)?;
+        read_piece::<C>(store, access, &chunk, room)?;
     }
     Ok(())
 }
@@ -275,19 +277,19 @@ fn read_piece<C: Chunks>(
     store: &C::Store,
     access: &mut C::Access,
     chunk: &SourceChunk<'_>,
-    output: &mut [u8],
-    scratch: &mut [u8],
+    room: &mut [u8],
 ) -> Result<(), TaskFault>
     requires belongs { C.belongs store.now access.old }
     requires may { Keeps (IsKeyOfSource chunk.now) (C.may_get store.now access.old) }
     requires chunk { IsSourceChunk chunk.now }
-    requires output { length output.old ≡ buffer_room (view_of_chunk chunk.now) }
-    requires scratch { room_for_chunk chunk.now ≤ length scratch.old }
+    requires room { room_for_chunk chunk.now + buffer_room (view_of_chunk chunk.now)
+        ≤ length room.old }
     ensures open { StaysOpen (C.belongs store.now access.new) (C.may_get store.now access.old)
         (C.may_get store.now access.new) }
     ensures takes { (told : Option Contents)
         → IsKnown (IsKeyOfSource chunk.now) told (C.shown access.old)
-        → OnOk result (HaveComeFrom chunk.now told output.old output.new) }
+        → OnOk result (HaveComeFrom chunk.now told (buffer_in (view_of_chunk chunk.now) room.old)
+        (buffer_in (view_of_chunk chunk.now) room.new)) }
     ensures step { Steps NoChange (sure_calls chunk.now.job.now.pull.now (calls_for_chunk chunk.now))
         (calls_for_chunk chunk.now)
         (C.shown access.old) (C.shown access.new) }
@@ -299,7 +301,7 @@ fn read_piece<C: Chunks>(
     if !is_needed(chunk) {
         return Ok(());
     }
-    take_chunk::<C>(store, access, chunk, output, scratch)
+    take_chunk::<C>(store, access, chunk, room)
 }
 
 /// Whether an element of the region comes from a chunk of a source; of a reshaped source it may be that none does.
@@ -365,7 +367,7 @@ fn front_block(chunk: &SourceChunk<'_>) -> Block
 }
 
 /// The bytes of the front of a chunk.
-fn front_bytes(chunk: &SourceChunk<'_>, front: &Block) -> usize
+pub(crate) fn front_bytes(chunk: &SourceChunk<'_>, front: &Block) -> usize
     requires chunk { IsSourceChunk chunk.now }
     requires front { IsFront chunk.now front.now }
     ensures bytes { result ≡ product front.now.dims * size_of front.now.dtype }
@@ -377,35 +379,107 @@ fn front_bytes(chunk: &SourceChunk<'_>, front: &Block) -> usize
     }
 }
 
-/// Takes the elements of the region that come from one chunk of a source. Where the region is the
-/// chunk, nothing is moved, and else they go through `scratch`.
+/// Takes the elements of the region that come from one chunk of a source. Where whole rows of the
+/// region come from it, it is read to where they stand.
 fn take_chunk<C: Chunks>(
     store: &C::Store,
     access: &mut C::Access,
     chunk: &SourceChunk<'_>,
-    output: &mut [u8],
-    scratch: &mut [u8],
+    room: &mut [u8],
 ) -> Result<(), TaskFault>
     requires belongs { C.belongs store.now access.old }
     requires may { Keeps (IsKeyOfSource chunk.now) (C.may_get store.now access.old) }
     requires chunk { IsSourceChunk chunk.now }
-    requires output { length output.old ≡ buffer_room (view_of_chunk chunk.now) }
-    requires scratch { room_for_chunk chunk.now ≤ length scratch.old }
+    requires room { room_for_chunk chunk.now + buffer_room (view_of_chunk chunk.now)
+        ≤ length room.old }
     ensures open { StaysOpen (C.belongs store.now access.new) (C.may_get store.now access.old)
         (C.may_get store.now access.new) }
     ensures takes { (told : Option Contents)
         → IsKnown (IsKeyOfSource chunk.now) told (C.shown access.old)
-        → OnOk result (HaveComeFrom chunk.now told output.old output.new) }
+        → OnOk result (HaveComeFrom chunk.now told (buffer_in (view_of_chunk chunk.now) room.old)
+        (buffer_in (view_of_chunk chunk.now) room.new)) }
     ensures step { Steps NoChange 1 1 (C.shown access.old) (C.shown access.new) }
     ensures called { Adds (C.weight store.now (key_at (source_of_chunk chunk.now) chunk.now.coord))
         (C.tally access.old) (C.tally access.new) }
     ensures cause { IfErr result (IsChunkReadFault (C.shown access.old) (C.shown access.new)
         (IsKeyOfSource chunk.now) (room_for_chunk chunk.now)) }
 {
+    let front = front_block(chunk);
+    match place_of_rows(chunk, &front, room.len()) {
+        Some(at) => take_rows::<C>(store, access, chunk, &front, at, room),
+        None => take_through::<C>(store, access, chunk, &front, room),
+    }
+}
+
+/// Reads the front of a chunk into `room`, from byte `at` on. The rows of it that the region has
+/// are then at their places in the region's buffer. Those before them may be in front of the
+/// buffer, where the memory is free.
+fn take_rows<C: Chunks>(
+    store: &C::Store,
+    access: &mut C::Access,
+    chunk: &SourceChunk<'_>,
+    front: &Block,
+    at: usize,
+    room: &mut [u8],
+) -> Result<(), TaskFault>
+    requires belongs { C.belongs store.now access.old }
+    requires may { Keeps (IsKeyOfSource chunk.now) (C.may_get store.now access.old) }
+    requires chunk { IsSourceChunk chunk.now }
+    requires front { IsFront chunk.now front.now }
+    requires stands { StandsFrom chunk.now
+        (length room.old - buffer_room (view_of_chunk chunk.now)) at }
+    requires fits { at + product front.now.dims * size_of front.now.dtype ≤ length room.old }
+    requires room { buffer_room (view_of_chunk chunk.now) ≤ length room.old }
+    ensures open { StaysOpen (C.belongs store.now access.new) (C.may_get store.now access.old)
+        (C.may_get store.now access.new) }
+    ensures takes { (told : Option Contents)
+        → IsKnown (IsKeyOfSource chunk.now) told (C.shown access.old)
+        → OnOk result (HaveComeFrom chunk.now told (buffer_in (view_of_chunk chunk.now) room.old)
+        (buffer_in (view_of_chunk chunk.now) room.new)) }
+    ensures step { Steps NoChange 1 1 (C.shown access.old) (C.shown access.new) }
+    ensures called { Adds (C.weight store.now (key_at (source_of_chunk chunk.now) chunk.now.coord))
+        (C.tally access.old) (C.tally access.new) }
+    ensures cause { IfErr result (IsChunkReadFault (C.shown access.old) (C.shown access.new)
+        (IsKeyOfSource chunk.now) (room_for_chunk chunk.now)) }
+{
+    let (_, behind) = room.split_at_mut(at);
+    let (rows, _) = behind.split_at_mut(front_bytes(chunk, front));
+    fetch_front::<C>(store, access, chunk, front, rows)
+}
+
+/// Takes the elements of the region that come from one chunk of a source. Where the region is the
+/// chunk, nothing is moved, and else they go through what stands before the region's buffer.
+fn take_through<C: Chunks>(
+    store: &C::Store,
+    access: &mut C::Access,
+    chunk: &SourceChunk<'_>,
+    front: &Block,
+    room: &mut [u8],
+) -> Result<(), TaskFault>
+    requires belongs { C.belongs store.now access.old }
+    requires may { Keeps (IsKeyOfSource chunk.now) (C.may_get store.now access.old) }
+    requires chunk { IsSourceChunk chunk.now }
+    requires front { IsFront chunk.now front.now }
+    requires room { room_for_chunk chunk.now + buffer_room (view_of_chunk chunk.now)
+        ≤ length room.old }
+    ensures open { StaysOpen (C.belongs store.now access.new) (C.may_get store.now access.old)
+        (C.may_get store.now access.new) }
+    ensures takes { (told : Option Contents)
+        → IsKnown (IsKeyOfSource chunk.now) told (C.shown access.old)
+        → OnOk result (HaveComeFrom chunk.now told (buffer_in (view_of_chunk chunk.now) room.old)
+        (buffer_in (view_of_chunk chunk.now) room.new)) }
+    ensures step { Steps NoChange 1 1 (C.shown access.old) (C.shown access.new) }
+    ensures called { Adds (C.weight store.now (key_at (source_of_chunk chunk.now) chunk.now.coord))
+        (C.tally access.old) (C.tally access.new) }
+    ensures cause { IfErr result (IsChunkReadFault (C.shown access.old) (C.shown access.new)
+        (IsKeyOfSource chunk.now) (room_for_chunk chunk.now)) }
+{
+    let before = room.len() - result_bytes(chunk.job.task);
+    let (scratch, output) = room.split_at_mut(before);
     if is_straight(chunk) {
         take_straight::<C>(store, access, chunk, output)
     } else {
-        take_front::<C>(store, access, chunk, output, scratch)
+        take_front::<C>(store, access, chunk, front, output, scratch)
     }
 }
 
@@ -442,12 +516,14 @@ fn take_front<C: Chunks>(
     store: &C::Store,
     access: &mut C::Access,
     chunk: &SourceChunk<'_>,
+    front: &Block,
     output: &mut [u8],
     scratch: &mut [u8],
 ) -> Result<(), TaskFault>
     requires belongs { C.belongs store.now access.old }
     requires may { Keeps (IsKeyOfSource chunk.now) (C.may_get store.now access.old) }
     requires chunk { IsSourceChunk chunk.now }
+    requires front { IsFront chunk.now front.now }
     requires output { length output.old ≡ buffer_room (view_of_chunk chunk.now) }
     requires scratch { room_for_chunk chunk.now ≤ length scratch.old }
     ensures open { StaysOpen (C.belongs store.now access.new) (C.may_get store.now access.old)
@@ -461,12 +537,39 @@ fn take_front<C: Chunks>(
     ensures cause { IfErr result (IsChunkReadFault (C.shown access.old) (C.shown access.new)
         (IsKeyOfSource chunk.now) (room_for_chunk chunk.now)) }
 {
-    let from = source_array(chunk.job, chunk.source);
-    let front = front_block(chunk);
-    let bytes = &mut scratch[..front_bytes(chunk, &front)];
-    read_front::<C>(store, access, from, &chunk.coord, bytes)?;
-    move_front(chunk, &front, bytes, output);
+    let bytes = &mut scratch[..front_bytes(chunk, front)];
+    fetch_front::<C>(store, access, chunk, front, bytes)?;
+    move_front(chunk, front, bytes, output);
     Ok(())
+}
+
+/// Reads the front of one chunk of a source, with all that is needed of it.
+fn fetch_front<C: Chunks>(
+    store: &C::Store,
+    access: &mut C::Access,
+    chunk: &SourceChunk<'_>,
+    front: &Block,
+    bytes: &mut [u8],
+) -> Result<(), TaskFault>
+    requires belongs { C.belongs store.now access.old }
+    requires may { Keeps (IsKeyOfSource chunk.now) (C.may_get store.now access.old) }
+    requires chunk { IsSourceChunk chunk.now }
+    requires front { IsFront chunk.now front.now }
+    requires bytes { length bytes.old ≡ product front.now.dims * size_of front.now.dtype }
+    ensures open { StaysOpen (C.belongs store.now access.new) (C.may_get store.now access.old)
+        (C.may_get store.now access.new) }
+    ensures read { OnOk result (HasFront (source_of_chunk chunk.now) chunk.now.coord
+        (C.shown access.new).held bytes.new) }
+    ensures elements { OnOk result
+        (AreElements (source_of_chunk chunk.now).layout.dtype bytes.new) }
+    ensures step { Steps NoChange 1 1 (C.shown access.old) (C.shown access.new) }
+    ensures called { Adds (C.weight store.now (key_at (source_of_chunk chunk.now) chunk.now.coord))
+        (C.tally access.old) (C.tally access.new) }
+    ensures cause { IfErr result (IsChunkReadFault (C.shown access.old) (C.shown access.new)
+        (IsKeyOfSource chunk.now) (room_for_chunk chunk.now)) }
+{
+    let from = source_array(chunk.job, chunk.source);
+    read_front::<C>(store, access, from, &chunk.coord, bytes)
 }
 
 /// Takes the elements of the region that come from a chunk of a source, whose front was read.

@@ -1,4 +1,4 @@
-use Rattle.std.proofs.Common.{◌≡◌, ◌≤◌, ◌<◌, ◌+◌, ◌++◌, ℕ, List, [], Contains, length, drop, refl, sym, ap, ◌∙◌, subst, arith, rules}
+use Rattle.std.proofs.Common.{◌≡◌, ◌≤◌, ◌<◌, ◌+◌, ◌++◌, ℕ, List, [], Contains, length, drop, refl, sym, ap, append_assoc, ◌∙◌, subst, arith, rules}
 use Rattle.std.specs.Prelude.{OnOk}
 use Rattle.std.proofs.lemmas.List.Elements.{All-contains_itself}
 use Rattle.std.proofs.lemmas.List.Sums.{sum_by-append, sum_by-cons}
@@ -6,6 +6,7 @@ use Rattle.std.proofs.lemmas.Result.{err_from_is_err_and}
 use Rattle.cu_store.specs.Steps.{NoChange, Steps}
 use Rattle.cu_store.proofs.StaysOpen.{open_then}
 use Rattle.cu_store.proofs.Steps.{steps_same, steps_then, steps_wider}
+use Rattle.cu_op.specs.Arrays.{type_at}
 use Rattle.cu_op.specs.Chunks.{walk}
 use Rattle.cu_op.specs.Operation.{value_array}
 use Rattle.cu_op.specs.Schedule.{op_of}
@@ -16,11 +17,13 @@ use Rattle.cu_op.specs.declared.operation.Op.{Op}
 use Rattle.cu_op.specs.declared.walks.Walk.{Walk}
 use Rattle.cu_op.proofs.TaskCells.{fit_of}
 use Rattle.cu_region.specs.Calls.{Made}
+use Rattle.cu_region.specs.Writing.{AreElements}
 use Rattle.cu_store.specs.Chunks.{Adds}
 use Rattle.cu_task.specs.Calls.{chunk_calls, chunk_tally}
-use Rattle.cu_task.specs.Inputs.{room_of_walks, walk_room, HasRegions, IsPullOf, IsWalkKey}
-use Rattle.cu_task.specs.OfTask.{calls_for_walk, calls_for_walks, cell_weight, held_inputs, kernel_words, tally_for_walk, tally_for_walks, walks_from, weight_of_walk, work_bytes, HasMade, HasWalk}
-use Rattle.cu_task.specs.Task.{IsComputing, IsCopy, IsTaskKey}
+use Rattle.cu_task.specs.Inputs.{last_bytes, room_of_walks, walk_room, HasRegions, IsPullOf, IsWalkKey}
+use Rattle.cu_task.specs.OfTask.{calls_for_walk, calls_for_walks, cell_weight, found_bytes, held_inputs, made_bytes, tally_for_walk, tally_for_walks, walks_from, weight_of_walk, AreOfItsType, HasMade, HasWalk}
+use Rattle.cu_task.specs.Task.{HasResult, IsComputing, IsCopy, IsTaskKey}
+use Rattle.cu_task.specs.TaskRoom.{output_in, found_values_in}
 use Rattle.cu_task.proofs.CopyTask.{copies_whole}
 use Rattle.cu_task.proofs.InputReads.{all_added, all_made, on_err_more, on_ok_then, regions_more, still_after, still_fewer}
 use Rattle.cu_task.proofs.Inside.{computed_calls, computed_tally, own_fault, own_key, own_sure, read_has, read_of, scratch_of_work, steps_of_own, stored_calls, stored_tally}
@@ -29,6 +32,7 @@ use Rattle.cu_task.proofs.MadeParts.{alike_made, at_end, later_fault, next_walk}
 use Rattle.cu_task.proofs.PullTask.{of_pull}
 use Rattle.cu_task.proofs.PartialFolds.{fold_computes, fold_stores}
 use Rattle.cu_task.proofs.StripTask.{folded_calls, folded_made, folded_tally, map_computes}
+use Rattle.cu_task.proofs.Tails.{last_left, last_part, last_with, length-last_bytes, part_before_last}
 use Rattle.cu_task.proofs.TaskKinds.{computing, none_stored}
 use Rattle.cu_task.proofs.TaskRegions.{scratch_read}
 use Rattle.cu_task.proofs.TaskRooms.{kept_computing}
@@ -47,7 +51,7 @@ make_result-compute_result-requires g t c κs sub = (
         search rules,
         (
           c.requires.belongs,
-          (c.requires.may, (subst IsComputing c.operation.ensures.operation (computing c.operation.result.now c.in_default.not-Pull c.in_default.not-Copy), c.requires.room)),
+          (c.requires.may, (subst IsComputing c.operation.ensures.operation (computing c.operation.result.now c.in_default.not-Pull c.in_default.not-Copy), (c.requires.room, c.requires.words))),
         ),
       ),
     ),
@@ -65,24 +69,39 @@ make_result-pull_result-requires-clause-job g t c =
     let few : length c.as_slice-ins.result.now ≤ 8 = search rules in
     job_is_view _ c.operation.ensures.sound is few (search rules)
 
-pub make_result-pull_result-requires-clause-scratch : goal.make_result-pull_result-requires-clause-scratch
-make_result-pull_result-requires-clause-scratch g t c =
+pub make_result-pull_result-requires-clause-room : goal.make_result-pull_result-requires-clause-room
+make_result-pull_result-requires-clause-room g t c =
     let own = scratch_of_work c.args.task.now.plan c.args.task.now.op in
-    let most = c.requires.room.scratch in
+    let most = c.requires.room in
     omega (arith, own, most)
 
 pub make_result-copy_region-requires-clause-scratch : goal.make_result-copy_region-requires-clause-scratch
 make_result-copy_region-requires-clause-scratch g t c =
     let own = scratch_of_work c.args.task.now.plan c.args.task.now.op in
-    let most = c.requires.room.scratch in
-    omega (arith, own, most)
+    let most = c.requires.room in
+    let made = c.result_bytes.ensures.bytes in
+    let front = c.split_at_mut-scratch.ensures.front_len in
+    omega (arith, own, most, made, front)
+
+pub make_result-copy_region-requires-clause-output : goal.make_result-copy_region-requires-clause-output
+make_result-copy_region-requires-clause-output g t c =
+    let most = c.requires.room in
+    let made = c.result_bytes.ensures.bytes in
+    let back = c.split_at_mut-scratch.ensures.back_len in
+    omega (arith, most, made, back)
+
+pub make_result-overflow_sub-before : goal.make_result-overflow_sub-before
+make_result-overflow_sub-before g t c =
+    let most = c.requires.room in
+    let made = c.result_bytes.ensures.bytes in
+    omega (arith, most, made)
 
 pub make_result-returns-in-Pull-clause-made : goal.make_result-returns-in-Pull-clause-made
 make_result-returns-in-Pull-clause-made g t c held still =
     let is : IsPullOf (op_of c.args.task.now.plan c.args.task.now.op) c.in-Pull.pull c.as_slice-ins.result.now = subst (λ (o : Op). IsPullOf o c.in-Pull.pull c.as_slice-ins.result.now) (sym (sym c.operation.ensures.operation ∙ c.in-Pull.is)) (refl, c.as_slice-ins.ensures.value) in
     let whole = (of_pull c.args.task.now.plan c.args.task.now.op (op_of c.args.task.now.plan c.args.task.now.op) c.args.task.now.number c.in-Pull.pull c.as_slice-ins.result.now (fit_of c.args.task.now.plan c.operation.ensures.sound c.args.task.now.op c.args.task.now.operation) is).whole in
     on_ok_then c.pull_result.result
-    (λ made. alike_made c.args.task.now c.operation.ensures.sound held (g.C.Chunks.shown c.args.access.now) _ whole (ap value_array (sym c.operation.ensures.operation ∙ c.in-Pull.is)) still made)
+    (λ made. alike_made c.args.task.now c.operation.ensures.sound held (g.C.Chunks.shown c.args.access.now) _ _ whole (ap value_array (sym c.operation.ensures.operation ∙ c.in-Pull.is)) still made)
     (c.pull_result.ensures.values still.now (still.told, still.steady))
 
 pub make_result-returns-in-Pull-clause-elements : goal.make_result-returns-in-Pull-clause-elements
@@ -90,15 +109,6 @@ make_result-returns-in-Pull-clause-elements g t c =
     on_ok_then c.pull_result.result
     (λ elements. record { output = elements; values = λ array is. absurd (none_stored array (sym (ap value_array (sym c.operation.ensures.operation ∙ c.in-Pull.is)) ∙ is)) })
     c.pull_result.ensures.elements
-
-pub make_result-returns-in-Pull-clause-room : goal.make_result-returns-in-Pull-clause-room
-make_result-returns-in-Pull-clause-room g t c = record {
-  scratch = subst (λ (n : ℕ). work_bytes c.args.task.now ≤ n) (sym c.pull_result.auto.scratch) c.requires.room.scratch;
-  inputs = c.requires.room.inputs;
-  values = c.requires.room.values;
-  output = c.pull_result.auto.output ∙ c.requires.room.output;
-  words = c.requires.room.words;
-}
 
 pub make_result-returns-in-Pull-clause-all : goal.make_result-returns-in-Pull-clause-all
 make_result-returns-in-Pull-clause-all g t c sure = c.pull_result.ensures.all (own_sure c.args.task.now.plan c.args.task.now.op sure)
@@ -108,25 +118,28 @@ make_result-returns-in-Pull-clause-called g t c sure = c.pull_result.ensures.cal
 
 pub make_result-returns-in-Copy-clause-made : goal.make_result-returns-in-Copy-clause-made
 make_result-returns-in-Copy-clause-made g t c held still =
+    let task = c.args.task.now in
     let copy : IsCopy (op_of c.args.task.now.plan c.args.task.now.op) = subst IsCopy (sym (sym c.operation.ensures.operation ∙ c.in-Copy.is)) tt in
+    let made = c.result_bytes.ensures.bytes in
+    let most = c.requires.room in
+    let back = c.split_at_mut-scratch.ensures.back_len in
+    let long = c.copy_region.auto.output in
+    let tail = last_part c.copy_region.new.scratch c.copy_region.new.output (made_bytes c.args.task.now) (omega (arith, made, most, back, long)) in
     on_ok_then c.copy_region.result
-    (λ made. alike_made c.args.task.now c.operation.ensures.sound held (g.C.Chunks.shown c.args.access.now) _ (copies_whole c.args.task.now.plan.arrays (op_of c.args.task.now.plan c.args.task.now.op) copy) (ap value_array (sym c.operation.ensures.operation ∙ c.in-Copy.is)) still made)
+    (λ made. alike_made c.args.task.now c.operation.ensures.sound held (g.C.Chunks.shown c.args.access.now) _ _ (copies_whole c.args.task.now.plan.arrays (op_of c.args.task.now.plan c.args.task.now.op) copy) (ap value_array (sym c.operation.ensures.operation ∙ c.in-Copy.is)) still (subst (HasMade task _) (sym tail) made))
     (c.copy_region.ensures.values still.now (still.told, still.steady))
 
 pub make_result-returns-in-Copy-clause-elements : goal.make_result-returns-in-Copy-clause-elements
 make_result-returns-in-Copy-clause-elements g t c =
+    let task = c.args.task.now in
+    let made = c.result_bytes.ensures.bytes in
+    let most = c.requires.room in
+    let back = c.split_at_mut-scratch.ensures.back_len in
+    let long = c.copy_region.auto.output in
+    let tail = last_part c.copy_region.new.scratch c.copy_region.new.output (made_bytes c.args.task.now) (omega (arith, made, most, back, long)) in
     on_ok_then c.copy_region.result
-    (λ elements. record { output = elements; values = λ array is. absurd (none_stored array (sym (ap value_array (sym c.operation.ensures.operation ∙ c.in-Copy.is)) ∙ is)) })
+    (λ elements. record { output = subst (AreOfItsType task) (sym tail) elements; values = λ array is. absurd (none_stored array (sym (ap value_array (sym c.operation.ensures.operation ∙ c.in-Copy.is)) ∙ is)) })
     c.copy_region.ensures.elements
-
-pub make_result-returns-in-Copy-clause-room : goal.make_result-returns-in-Copy-clause-room
-make_result-returns-in-Copy-clause-room g t c = record {
-  scratch = subst (λ (n : ℕ). work_bytes c.args.task.now ≤ n) (sym c.copy_region.auto.scratch) c.requires.room.scratch;
-  inputs = c.requires.room.inputs;
-  values = c.requires.room.values;
-  output = c.copy_region.auto.output ∙ c.requires.room.output;
-  words = c.requires.room.words;
-}
 
 pub make_result-returns-in-Copy-clause-all : goal.make_result-returns-in-Copy-clause-all
 make_result-returns-in-Copy-clause-all g t c _ = c.copy_region.ensures.all
@@ -138,38 +151,123 @@ make_result-returns-in-Copy-clause-called g t c _ = c.copy_region.ensures.called
 
 pub compute_result-read_inputs-requires : goal.compute_result-read_inputs-requires
 compute_result-read_inputs-requires g t c κs sub =
-    let inputs = c.requires.room.inputs ∙ kept_computing c.args.task.now.plan.arrays (op_of c.args.task.now.plan c.args.task.now.op) c.args.task.now.number c.requires.computing in (
+    let kept = kept_computing c.args.task.now.plan.arrays (op_of c.args.task.now.plan c.args.task.now.op) c.args.task.now.number c.requires.computing in
+    let room = c.requires.room in
+    let made = c.result_bytes.ensures.bytes in
+    let found = c.value_bytes.ensures in
+    let front = c.split_at_mut-reads.ensures.front_len in (
       omega (arith, c.decreases),
-      (search rules, (search rules, (search rules, (c.requires.belongs, (c.requires.may, (omega arith, (omega (arith, inputs), (c.requires.room.scratch, c.requires.room.words)))))))),
+      (search rules, (search rules, (search rules, (c.requires.belongs, (c.requires.may, (omega arith, (omega (arith, kept, room, made, found, front), c.requires.words))))))),
     )
+
+pub compute_result-overflow_sub-before_output : goal.compute_result-overflow_sub-before_output
+compute_result-overflow_sub-before_output g t c =
+    let room = c.requires.room in
+    let made = c.result_bytes.ensures.bytes in
+    omega (arith, room, made)
+
+pub compute_result-overflow_sub-before_values : goal.compute_result-overflow_sub-before_values
+compute_result-overflow_sub-before_values g t c =
+    let room = c.requires.room in
+    let made = c.result_bytes.ensures.bytes in
+    let found = c.value_bytes.ensures in
+    omega (arith, room, made, found)
+
+pub compute_result-kept_bytes-requires : goal.compute_result-kept_bytes-requires
+compute_result-kept_bytes-requires g t c =
+    let room = c.requires.room in
+    omega (arith, room)
+
+pub compute_result-overflow_sub-before_inputs : goal.compute_result-overflow_sub-before_inputs
+compute_result-overflow_sub-before_inputs g t c =
+    let room = c.requires.room in
+    let made = c.result_bytes.ensures.bytes in
+    let found = c.value_bytes.ensures in
+    let kept = c.kept_bytes.ensures in
+    omega (arith, room, made, found, kept)
 
 pub compute_result-compute-requires-clause-words : goal.compute_result-compute-requires-clause-words
 compute_result-compute-requires-clause-words g t c =
     let own = steps_of_own c.args.task.now.plan c.args.task.now.op in
-    let most = c.requires.room.words in
+    let most = c.requires.words in
     let long = c.read_inputs.auto.words in
     omega (arith, own, most, long)
 
 pub compute_result-compute-requires-clause-inputs : goal.compute_result-compute-requires-clause-inputs
-compute_result-compute-requires-clause-inputs g t c = c.read_inputs.auto.inputs ∙ c.requires.room.inputs ∙ kept_computing c.args.task.now.plan.arrays (op_of c.args.task.now.plan c.args.task.now.op) c.args.task.now.number c.requires.computing
+compute_result-compute-requires-clause-inputs g t c =
+    let kept = kept_computing c.args.task.now.plan.arrays (op_of c.args.task.now.plan c.args.task.now.op) c.args.task.now.number c.requires.computing in
+    let room = c.requires.room in
+    let made = c.result_bytes.ensures.bytes in
+    let found = c.value_bytes.ensures in
+    let own = c.kept_bytes.ensures in
+    let front = c.split_at_mut-reads.ensures.front_len in
+    let long = c.read_inputs.auto.room in
+    let back = c.split_at_mut-inputs.ensures.back_len in
+    omega (arith, kept, room, made, found, own, front, long, back)
+
+pub compute_result-compute-requires-clause-values : goal.compute_result-compute-requires-clause-values
+compute_result-compute-requires-clause-values g t c =
+    let room = c.requires.room in
+    let made = c.result_bytes.ensures.bytes in
+    let found = c.value_bytes.ensures in
+    let front = c.split_at_mut-front.ensures.front_len in
+    let back = c.split_at_mut-reads.ensures.back_len in
+    omega (arith, room, made, found, front, back)
+
+pub compute_result-compute-requires-clause-output : goal.compute_result-compute-requires-clause-output
+compute_result-compute-requires-clause-output g t c =
+    let room = c.requires.room in
+    let made = c.result_bytes.ensures.bytes in
+    let back = c.split_at_mut-front.ensures.back_len in
+    omega (arith, room, made, back)
 
 pub compute_result-returns-clause-made : goal.compute_result-returns-clause-made
 compute_result-returns-clause-made g t c held still =
+    let task = c.args.task.now in
     let at = held_inputs c.args.task.now held in
-    let read = c.in_ok-read_inputs.ensures.read held still in
-    record { output = c.compute.ensures.output at read; values = λ array is. c.compute.ensures.values array is at read }
+    let room = c.requires.room in
+    let made = c.result_bytes.ensures.bytes in
+    let found = c.value_bytes.ensures in
+    let own = c.kept_bytes.ensures in
+    let front = c.split_at_mut-front.ensures.front_len in
+    let back = c.split_at_mut-front.ensures.back_len in
+    let front2 = c.split_at_mut-reads.ensures.front_len in
+    let back2 = c.split_at_mut-reads.ensures.back_len in
+    let kept = kept_computing c.args.task.now.plan.arrays (op_of c.args.task.now.plan c.args.task.now.op) c.args.task.now.number c.requires.computing in
+    let long = c.read_inputs.auto.room in
+    let output = c.compute.auto.output in
+    let values = c.compute.auto.values in
+    let inputs : c.split_at_mut-inputs.result.1.now ≡ last_bytes (room_of_walks task.plan.arrays (walks_from task 0)) c.read_inputs.new.room
+    = c.split_at_mut-inputs.ensures.back ∙ last_left c.read_inputs.new.room _ (room_of_walks task.plan.arrays (walks_from task 0)) (omega (arith, room, made, found, own, front2, kept, long)) in
+    let read = subst (HasRegions task.plan.arrays at (walks_from task 0)) (sym inputs) (c.in_ok-read_inputs.ensures.read held still) in
+    let tail = last_part ((c.split_at_mut-inputs.result.0.now ++ c.split_at_mut-inputs.result.1.now) ++ c.compute.new.values) c.compute.new.output (made_bytes c.args.task.now) (omega (arith, room, made, back, output)) in
+    let before = ap (λ (bytes : List ℕ). found_values_in c.args.task.now bytes) (append_assoc (c.split_at_mut-inputs.result.0.now ++ c.split_at_mut-inputs.result.1.now) c.compute.new.values c.compute.new.output)
+    ∙ part_before_last (c.split_at_mut-inputs.result.0.now ++ c.split_at_mut-inputs.result.1.now) c.compute.new.values c.compute.new.output (found_bytes c.args.task.now) (made_bytes c.args.task.now) (omega (arith, room, made, found, front, back2, values)) (omega (arith, room, made, back, output)) in
+    record {
+      output = subst (HasMade task at) (sym tail) (c.compute.ensures.output at read);
+      values = λ array is. subst (HasResult task.plan task.op task.number array at) (sym before) (c.compute.ensures.values array is at read);
+    }
 
 pub compute_result-returns-clause-elements : goal.compute_result-returns-clause-elements
-compute_result-returns-clause-elements g t c = record { output = c.compute.ensures.output_elements; values = c.compute.ensures.value_elements }
-
-pub compute_result-returns-clause-room : goal.compute_result-returns-clause-room
-compute_result-returns-clause-room g t c = record {
-  scratch = subst (λ (n : ℕ). work_bytes c.args.task.now ≤ n) (sym c.read_inputs.auto.scratch) c.requires.room.scratch;
-  inputs = c.read_inputs.auto.inputs ∙ c.requires.room.inputs;
-  values = c.compute.auto.values ∙ c.requires.room.values;
-  output = c.compute.auto.output ∙ c.requires.room.output;
-  words = subst (λ (n : ℕ). kernel_words c.args.task.now ≤ n) (sym (c.compute.auto.words ∙ c.read_inputs.auto.words)) c.requires.room.words;
-}
+compute_result-returns-clause-elements g t c =
+    let task = c.args.task.now in
+    let room = c.requires.room in
+    let made = c.result_bytes.ensures.bytes in
+    let found = c.value_bytes.ensures in
+    let own = c.kept_bytes.ensures in
+    let front = c.split_at_mut-front.ensures.front_len in
+    let back = c.split_at_mut-front.ensures.back_len in
+    let front2 = c.split_at_mut-reads.ensures.front_len in
+    let back2 = c.split_at_mut-reads.ensures.back_len in
+    let output = c.compute.auto.output in
+    let values = c.compute.auto.values in
+    let tail = last_part ((c.split_at_mut-inputs.result.0.now ++ c.split_at_mut-inputs.result.1.now) ++ c.compute.new.values) c.compute.new.output (made_bytes c.args.task.now) (omega (arith, room, made, back, output)) in
+    let before = ap (λ (bytes : List ℕ). found_values_in c.args.task.now bytes) (append_assoc (c.split_at_mut-inputs.result.0.now ++ c.split_at_mut-inputs.result.1.now) c.compute.new.values c.compute.new.output)
+    ∙ part_before_last (c.split_at_mut-inputs.result.0.now ++ c.split_at_mut-inputs.result.1.now) c.compute.new.values c.compute.new.output (found_bytes c.args.task.now) (made_bytes c.args.task.now) (omega (arith, room, made, found, front, back2, values)) (omega (arith, room, made, back, output)) in
+    record {
+      output = subst (AreOfItsType task) (sym tail) c.compute.ensures.output_elements;
+      values = λ array is. subst (AreElements (type_at task.plan.arrays array)) (sym before) (c.compute.ensures.value_elements array is);
+    }
 
 pub compute_result-returns-clause-step : goal.compute_result-returns-clause-step
 compute_result-returns-clause-step g t c =
@@ -186,15 +284,6 @@ compute_result-returns-clause-called g t c sure =
     let weight = cell_weight (g.C.Chunks.weight c.args.store.now) c.args.task.now in
     let tally = computed_tally weight (chunk_tally weight c.args.task.now.plan c.args.task.now.op) c.args.task.now.plan.arrays (op_of c.args.task.now.plan c.args.task.now.op) c.args.task.now.number c.requires.computing in
     subst (λ (n : ℕ). Adds n (g.C.Chunks.tally c.args.access.now) (g.C.Chunks.tally c.read_inputs.new.access)) (sym tally) (c.in_ok-read_inputs.ensures.called sure)
-
-pub compute_result-returns-in_err-read_inputs-clause-room : goal.compute_result-returns-in_err-read_inputs-clause-room
-compute_result-returns-in_err-read_inputs-clause-room g t c = record {
-  scratch = subst (λ (n : ℕ). work_bytes c.args.task.now ≤ n) (sym c.read_inputs.auto.scratch) c.requires.room.scratch;
-  inputs = c.read_inputs.auto.inputs ∙ c.requires.room.inputs;
-  values = c.requires.room.values;
-  output = c.requires.room.output;
-  words = subst (λ (n : ℕ). kernel_words c.args.task.now ≤ n) (sym c.read_inputs.auto.words) c.requires.room.words;
-}
 
 pub compute_result-returns-in_err-read_inputs-clause-step : goal.compute_result-returns-in_err-read_inputs-clause-step
 compute_result-returns-in_err-read_inputs-clause-step g t c =
@@ -224,12 +313,15 @@ fold_by_strips-read_inputs-requires g t c κs sub =
     let st = c.requires.map.inside in
     let before = st.before in
     let own = kept_computing map.plan.arrays (op_of map.plan map.op) map.number (map_computes (op_of map.plan map.op) c.requires.map.map) in
-    let kept = c.kept_bytes.ensures in
-    let front = c.split_at_mut-inputs.ensures.front_len in
-    let back = c.split_at_mut-inputs.ensures.back_len in
-    let room = c.requires.room.scratch in
+    let room = c.requires.room in
+    let made = c.result_bytes.ensures.bytes in
+    let strip = c.kept_bytes.ensures in
+    let front = c.split_at_mut-front.ensures.front_len in
+    let back = c.split_at_mut-front.ensures.back_len in
+    let front2 = c.split_at_mut-reads.ensures.front_len in
+    let back2 = c.split_at_mut-reads.ensures.back_len in
     let fits = st.scratch in
-    let words = c.requires.room.words in
+    let words = c.requires.words in
     let own_words = st.words in (
       omega (arith, c.decreases, before),
       (
@@ -242,7 +334,7 @@ fold_by_strips-read_inputs-requires g t c κs sub =
               c.requires.belongs,
               (
                 (λ key here. c.requires.may key (st.keys key here)),
-                (omega arith, (omega (arith, own, kept, front), (omega (arith, kept, back, room, fits), omega (arith, words, own_words)))),
+                (omega arith, (omega (arith, own, room, made, strip, front, front2, fits), omega (arith, words, own_words))),
               ),
             ),
           ),
@@ -250,21 +342,69 @@ fold_by_strips-read_inputs-requires g t c κs sub =
       ),
     )
 
+pub fold_by_strips-overflow_sub-before_output : goal.fold_by_strips-overflow_sub-before_output
+fold_by_strips-overflow_sub-before_output g t c =
+    let room = c.requires.room in
+    let made = c.result_bytes.ensures.bytes in
+    omega (arith, room, made)
+
+pub fold_by_strips-overflow_sub-before_strip : goal.fold_by_strips-overflow_sub-before_strip
+fold_by_strips-overflow_sub-before_strip g t c =
+    let room = c.requires.room in
+    let made = c.result_bytes.ensures.bytes in
+    let strip = c.kept_bytes.ensures in
+    omega (arith, room, made, strip)
+
+pub fold_by_strips-overflow_sub-before_inputs : goal.fold_by_strips-overflow_sub-before_inputs
+fold_by_strips-overflow_sub-before_inputs g t c =
+    let room = c.requires.room in
+    let made = c.result_bytes.ensures.bytes in
+    let strip = c.kept_bytes.ensures in
+    let kept = c.kept_bytes-2.ensures in
+    let fits = c.requires.map.inside.scratch in
+    omega (arith, room, made, strip, kept, fits)
+
 pub fold_by_strips-fold_map-requires-clause-inputs : goal.fold_by_strips-fold_map-requires-clause-inputs
 fold_by_strips-fold_map-requires-clause-inputs g t c =
     let map = c.args.map.now in
     let own = kept_computing map.plan.arrays (op_of map.plan map.op) map.number (map_computes (op_of map.plan map.op) c.requires.map.map) in
-    c.read_inputs.auto.inputs ∙ c.split_at_mut-inputs.ensures.front_len ∙ c.kept_bytes.ensures ∙ own
+    let room = c.requires.room in
+    let made = c.result_bytes.ensures.bytes in
+    let strip = c.kept_bytes.ensures in
+    let front = c.split_at_mut-front.ensures.front_len in
+    let back = c.split_at_mut-front.ensures.back_len in
+    let front2 = c.split_at_mut-reads.ensures.front_len in
+    let back2 = c.split_at_mut-reads.ensures.back_len in
+    let kept = c.kept_bytes-2.ensures in
+    let fits = c.requires.map.inside.scratch in
+    let long = c.read_inputs.auto.room in
+    let last = c.split_at_mut-inputs.ensures.back_len in
+    omega (arith, own, room, made, strip, front, front2, kept, fits, long, last)
+
+pub fold_by_strips-fold_map-requires-clause-output : goal.fold_by_strips-fold_map-requires-clause-output
+fold_by_strips-fold_map-requires-clause-output g t c =
+    let room = c.requires.room in
+    let made = c.result_bytes.ensures.bytes in
+    let back = c.split_at_mut-front.ensures.back_len in
+    omega (arith, room, made, back)
 
 pub fold_by_strips-fold_map-requires-clause-strip : goal.fold_by_strips-fold_map-requires-clause-strip
 fold_by_strips-fold_map-requires-clause-strip g t c =
     let task = c.args.task.now in
-    c.requires.room.inputs ∙ kept_computing task.plan.arrays (op_of task.plan task.op) task.number (fold_computes (op_of task.plan task.op) c.requires.map.fold)
+    let own = kept_computing task.plan.arrays (op_of task.plan task.op) task.number (fold_computes (op_of task.plan task.op) c.requires.map.fold) in
+    let room = c.requires.room in
+    let made = c.result_bytes.ensures.bytes in
+    let strip = c.kept_bytes.ensures in
+    let front = c.split_at_mut-front.ensures.front_len in
+    let back = c.split_at_mut-front.ensures.back_len in
+    let front2 = c.split_at_mut-reads.ensures.front_len in
+    let back2 = c.split_at_mut-reads.ensures.back_len in
+    omega (arith, own, room, made, strip, front, back2)
 
 pub fold_by_strips-fold_map-requires-clause-words : goal.fold_by_strips-fold_map-requires-clause-words
 fold_by_strips-fold_map-requires-clause-words g t c =
     let own = steps_of_own c.args.map.now.plan c.args.map.now.op in
-    let most = c.requires.room.words in
+    let most = c.requires.words in
     let fewer = c.requires.map.inside.words in
     let long = c.read_inputs.auto.words in
     omega (arith, own, most, fewer, long)
@@ -273,17 +413,39 @@ pub fold_by_strips-returns-clause-made : goal.fold_by_strips-returns-clause-made
 fold_by_strips-returns-clause-made g t c held still =
     let task = c.args.task.now in
     let map = c.args.map.now in
+    let own = kept_computing map.plan.arrays (op_of map.plan map.op) map.number (map_computes (op_of map.plan map.op) c.requires.map.map) in
+    let room = c.requires.room in
+    let made = c.result_bytes.ensures.bytes in
+    let strip = c.kept_bytes.ensures in
+    let front = c.split_at_mut-front.ensures.front_len in
+    let back = c.split_at_mut-front.ensures.back_len in
+    let front2 = c.split_at_mut-reads.ensures.front_len in
+    let back2 = c.split_at_mut-reads.ensures.back_len in
+    let kept = c.kept_bytes-2.ensures in
+    let fits = c.requires.map.inside.scratch in
+    let long = c.read_inputs.auto.room in
+    let output = c.fold_map.auto.output in
     let fewer = still_fewer (IsTaskKey task.plan task.op task.number) (IsTaskKey map.plan map.op map.number) held (g.C.Chunks.shown c.args.access.now) c.requires.map.inside.keys still in
+    let inputs : c.split_at_mut-inputs.result.1.now ≡ last_bytes (room_of_walks map.plan.arrays (walks_from map 0)) c.read_inputs.new.room
+    = c.split_at_mut-inputs.ensures.back ∙ last_left c.read_inputs.new.room _ (room_of_walks map.plan.arrays (walks_from map 0)) (omega (arith, own, room, made, strip, front, front2, kept, fits, long)) in
+    let read = subst (HasRegions map.plan.arrays (held_inputs map held) (walks_from map 0)) (sym inputs) (c.in_ok-read_inputs.ensures.read held fewer) in
+    let tail = last_part ((c.split_at_mut-inputs.result.0.now ++ c.split_at_mut-inputs.result.1.now) ++ c.fold_map.new.strip) c.fold_map.new.output (made_bytes c.args.task.now) (omega (arith, room, made, back, output)) in
     record {
-      output = folded_made task map c.requires.map held _ _ (c.in_ok-read_inputs.ensures.read held fewer) c.fold_map.ensures.values;
+      output = subst (HasMade task (held_inputs task held)) (sym tail) (folded_made task map c.requires.map held _ _ read c.fold_map.ensures.values);
       values = λ array is. absurd (none_stored array (fold_stores (op_of task.plan task.op) c.requires.map.fold ∙ is));
     }
 
 pub fold_by_strips-returns-clause-elements : goal.fold_by_strips-returns-clause-elements
-fold_by_strips-returns-clause-elements g t c = record {
-  output = c.fold_map.ensures.elements;
-  values = λ array is. absurd (none_stored array (fold_stores (op_of c.args.task.now.plan c.args.task.now.op) c.requires.map.fold ∙ is));
-}
+fold_by_strips-returns-clause-elements g t c =
+    let room = c.requires.room in
+    let made = c.result_bytes.ensures.bytes in
+    let back = c.split_at_mut-front.ensures.back_len in
+    let output = c.fold_map.auto.output in
+    let tail = last_part ((c.split_at_mut-inputs.result.0.now ++ c.split_at_mut-inputs.result.1.now) ++ c.fold_map.new.strip) c.fold_map.new.output (made_bytes c.args.task.now) (omega (arith, room, made, back, output)) in
+    record {
+      output = subst (AreOfItsType c.args.task.now) (sym tail) c.fold_map.ensures.elements;
+      values = λ array is. absurd (none_stored array (fold_stores (op_of c.args.task.now.plan c.args.task.now.op) c.requires.map.fold ∙ is));
+    }
 
 pub fold_by_strips-returns-clause-step : goal.fold_by_strips-returns-clause-step
 fold_by_strips-returns-clause-step g t c =
@@ -343,27 +505,18 @@ read_inputs-returns-then-place-input_walks-clause-called g t c sure =
 
 pub read_inputs-read_input-requires : goal.read_inputs-read_input-requires
 read_inputs-read_input-requires g t c κs sub =
-    let room = c.split_at_mut-own.ensures.front_len ∙ c.walk_bytes.ensures.bytes ∙ ap (walk_room c.args.task.now.plan.arrays) c.input_walk-walk.ensures.walk in (
-      omega (arith, c.decreases),
-      (search rules, (search rules, (search rules, (c.requires.belongs, (c.requires.may, (search rules, (room, (c.requires.scratch, c.requires.words)))))))),
-    )
-
-pub read_inputs-read_inputs-requires : goal.read_inputs-read_inputs-requires
-read_inputs-read_inputs-requires g t c κs sub =
     let arrays = c.args.task.now.plan.arrays in
     let walks = input_walks c.args.task.now.plan.arrays (op_of c.args.task.now.plan c.args.task.now.op) c.args.task.now.number in
     let below : c.args.place < length walks = search rules in
-    let few = subst (λ (ws : List Walk). length ws ≤ 8) c.input_walks.ensures.walks c.input_walks.ensures.few in
     let next = next_walk walks c.args.place (walk 0 [] []) below in
     let sum = ap (room_of_walks arrays) next ∙ sum_by-cons (walk_room arrays) (walk_at c.args.task.now c.args.place) (drop (c.args.place + 1) walks) in
-    let own = c.walk_bytes.ensures.bytes ∙ ap (walk_room arrays) c.input_walk-walk.ensures.walk in
-    let back = c.split_at_mut-own.ensures.back_len in
+    let others = c.bytes_from.ensures in
+    let front = c.split_at_mut-own.ensures.front_len in
     let room = c.requires.room in
-    let scratch = c.requires.scratch in
     let words = c.requires.words in
-    let scratch_len = c.read_input.auto.scratch in
-    let words_len = c.read_input.auto.words in (
-      omega (arith, c.decreases, below, few),
+    let long = c.read_inputs.auto.room in
+    let words_len = c.read_inputs.auto.words in (
+      omega (arith, c.decreases),
       (
         search rules,
         (
@@ -371,10 +524,10 @@ read_inputs-read_inputs-requires g t c κs sub =
           (
             search rules,
             (
-              c.read_input.ensures.open.belongs,
+              c.read_inputs.ensures.open.belongs,
               (
-                (λ key here. c.read_input.ensures.open.gets key (c.requires.may key here)),
-                (omega (arith, below), (omega (arith, sum, own, back, room), (omega (arith, scratch, scratch_len), omega (arith, words, words_len)))),
+                (λ key here. c.read_inputs.ensures.open.gets key (c.requires.may key here)),
+                (omega (arith, below), (omega (arith, sum, others, front, room, long), omega (arith, words, words_len))),
               ),
             ),
           ),
@@ -382,24 +535,71 @@ read_inputs-read_inputs-requires g t c κs sub =
       ),
     )
 
+pub read_inputs-bytes_from-requires-clause-small : goal.read_inputs-bytes_from-requires-clause-small
+read_inputs-bytes_from-requires-clause-small g t c =
+    let arrays = c.args.task.now.plan.arrays in
+    let walks = input_walks c.args.task.now.plan.arrays (op_of c.args.task.now.plan c.args.task.now.op) c.args.task.now.number in
+    let below : c.args.place < length walks = search rules in
+    let next = next_walk walks c.args.place (walk 0 [] []) below in
+    let sum = ap (room_of_walks arrays) next ∙ sum_by-cons (walk_room arrays) (walk_at c.args.task.now c.args.place) (drop (c.args.place + 1) walks) in
+    let room = c.requires.room in
+    omega (arith, sum, room)
+
+pub read_inputs-overflow_sub-before_others : goal.read_inputs-overflow_sub-before_others
+read_inputs-overflow_sub-before_others g t c =
+    let arrays = c.args.task.now.plan.arrays in
+    let walks = input_walks c.args.task.now.plan.arrays (op_of c.args.task.now.plan c.args.task.now.op) c.args.task.now.number in
+    let below : c.args.place < length walks = search rules in
+    let next = next_walk walks c.args.place (walk 0 [] []) below in
+    let sum = ap (room_of_walks arrays) next ∙ sum_by-cons (walk_room arrays) (walk_at c.args.task.now c.args.place) (drop (c.args.place + 1) walks) in
+    let others = c.bytes_from.ensures in
+    let room = c.requires.room in
+    let long = c.read_inputs.auto.room in
+    omega (arith, sum, others, room, long)
+
+pub read_inputs-read_inputs-requires : goal.read_inputs-read_inputs-requires
+read_inputs-read_inputs-requires g t c κs sub =
+    let arrays = c.args.task.now.plan.arrays in
+    let walks = input_walks c.args.task.now.plan.arrays (op_of c.args.task.now.plan c.args.task.now.op) c.args.task.now.number in
+    let below : c.args.place < length walks = search rules in
+    let next = next_walk walks c.args.place (walk 0 [] []) below in
+    let sum = ap (room_of_walks arrays) next ∙ sum_by-cons (walk_room arrays) (walk_at c.args.task.now c.args.place) (drop (c.args.place + 1) walks) in
+    let few = subst (λ (ws : List Walk). length ws ≤ 8) c.input_walks.ensures.walks c.input_walks.ensures.few in
+    let room = c.requires.room in (
+      omega (arith, c.decreases, below, few),
+      (search rules, (search rules, (search rules, (c.requires.belongs, (c.requires.may, (omega (arith, below), (omega (arith, sum, room), c.requires.words))))))),
+    )
+
 pub read_inputs-returns-clause-read : goal.read_inputs-returns-clause-read
 read_inputs-returns-clause-read g t c held still =
     let task = c.args.task.now in
-    let arrays = task.plan.arrays in
-    let walks = input_walks task.plan.arrays (op_of task.plan task.op) task.number in
+    let arrays = c.args.task.now.plan.arrays in
+    let walks = input_walks c.args.task.now.plan.arrays (op_of c.args.task.now.plan c.args.task.now.op) c.args.task.now.number in
     let below : c.args.place < length walks = search rules in
     let next = next_walk walks c.args.place (walk 0 [] []) below in
+    let sum = ap (room_of_walks arrays) next ∙ sum_by-cons (walk_room arrays) (walk_at c.args.task.now c.args.place) (drop (c.args.place + 1) walks) in
     let w = walk_at task c.args.place in
+    let ws = drop (c.args.place + 1) walks in
     let at = held_inputs task held in
-    let own = c.walk_bytes.ensures.bytes ∙ ap (walk_room arrays) c.input_walk-walk.ensures.walk in
+    let others = c.bytes_from.ensures in
     let front = c.split_at_mut-own.ensures.front_len in
-    let long : length c.read_input.new.out ≡ walk_room arrays w = c.read_input.auto.out ∙ front ∙ own in
-    let first = c.in_ok-read_input.ensures.read held still in
-    let later = still_after (IsTaskKey task.plan task.op task.number) held (g.C.Chunks.shown c.args.access.now) (g.C.Chunks.shown c.read_input.new.access) 0 (calls_for_walk task w) still c.read_input.ensures.step in
-    on_ok_then c.read_inputs.result
-    (λ has. subst (λ (ws : List Walk). HasRegions arrays at ws (c.read_input.new.out ++ c.read_inputs.new.inputs)) (sym next)
-    (regions_more arrays w (drop (c.args.place + 1) walks) at c.read_input.new.out c.read_inputs.new.inputs long first has))
-    (c.read_inputs.ensures.read held later)
+    let back = c.split_at_mut-own.ensures.back_len in
+    let room = c.requires.room in
+    let long = c.read_inputs.auto.room in
+    let own_long = c.read_input.auto.room in
+    let behind : c.split_at_mut-own.result.1.now ≡ last_bytes (room_of_walks arrays ws) c.read_inputs.new.room
+    = c.split_at_mut-own.ensures.back ∙ last_left c.read_inputs.new.room _ (room_of_walks arrays ws) (omega (arith, sum, others, room, long)) in
+    let first = subst (HasRegions arrays at ws) (sym behind) (c.in_ok-read_inputs.ensures.read held still) in
+    let later = still_after (IsTaskKey task.plan task.op task.number) held (g.C.Chunks.shown c.args.access.now) (g.C.Chunks.shown c.read_inputs.new.access) 0 (calls_for_walks task ws) still c.read_inputs.ensures.step in
+    let fits : walk_room arrays w ≤ length c.read_input.new.room = omega (arith, sum, others, front, room, long, own_long) in
+    let together : last_bytes (room_of_walks arrays (drop c.args.place walks)) (c.read_input.new.room ++ c.split_at_mut-own.result.1.now) ≡ last_bytes (walk_room arrays w) c.read_input.new.room ++ c.split_at_mut-own.result.1.now
+    = ap (λ (n : ℕ). last_bytes n (c.read_input.new.room ++ c.split_at_mut-own.result.1.now)) sum
+    ∙ last_with c.read_input.new.room c.split_at_mut-own.result.1.now (walk_room arrays w) (room_of_walks arrays ws) (omega (arith, sum, others, back, room, long)) fits in
+    on_ok_then c.read_input.result
+    (λ has. subst (HasRegions arrays at (drop c.args.place walks)) (sym together)
+    (subst (λ (xs : List Walk). HasRegions arrays at xs (last_bytes (walk_room arrays w) c.read_input.new.room ++ c.split_at_mut-own.result.1.now)) (sym next)
+    (regions_more arrays w ws at (last_bytes (walk_room arrays w) c.read_input.new.room) c.split_at_mut-own.result.1.now (length-last_bytes (walk_room arrays w) c.read_input.new.room fits) has first)))
+    (c.read_input.ensures.read held later)
 
 -- the calls for the region at a place, and for those behind it
 next_calls : (t : TaskView) (place : ℕ) → place < length (input_walks t.plan.arrays (task_op t) t.number)
@@ -420,57 +620,59 @@ next_tally weight t place below =
 pub read_inputs-returns-clause-step : goal.read_inputs-returns-clause-step
 read_inputs-returns-clause-step g t c =
     let calls = next_calls c.args.task.now c.args.place (search rules) in
-    steps_wider (λ key value none. none) (omega arith) (omega (arith, calls)) (steps_then c.read_input.ensures.step c.read_inputs.ensures.step)
+    steps_wider (λ key value none. none) (omega arith) (omega (arith, calls)) (steps_then c.read_inputs.ensures.step c.read_input.ensures.step)
 
 pub read_inputs-returns-clause-all : goal.read_inputs-returns-clause-all
 read_inputs-returns-clause-all g t c sure =
     let task = c.args.task.now in
     let calls = next_calls c.args.task.now c.args.place (search rules) in
-    on_ok_then c.read_inputs.result
-    (λ made. subst (λ (n : ℕ). Made n (g.C.Chunks.shown c.args.access.now).calls (g.C.Chunks.shown c.read_inputs.new.access).calls) (sym calls)
-    (all_made (g.C.Chunks.shown c.args.access.now).calls (g.C.Chunks.shown c.read_input.new.access).calls (g.C.Chunks.shown c.read_inputs.new.access).calls
-    (calls_for_walk task (walk_at task c.args.place)) (calls_for_walks task (walks_from task (c.args.place + 1))) (c.in_ok-read_input.ensures.all sure) made))
-    (c.read_inputs.ensures.all sure)
+    let total : calls_for_walks task (walks_from task c.args.place) ≡ calls_for_walks task (walks_from task (c.args.place + 1)) + calls_for_walk task (walk_at task c.args.place) = omega (arith, calls) in
+    on_ok_then c.read_input.result
+    (λ made. subst (λ (n : ℕ). Made n (g.C.Chunks.shown c.args.access.now).calls (g.C.Chunks.shown c.read_input.new.access).calls) (sym total)
+    (all_made (g.C.Chunks.shown c.args.access.now).calls (g.C.Chunks.shown c.read_inputs.new.access).calls (g.C.Chunks.shown c.read_input.new.access).calls
+    (calls_for_walks task (walks_from task (c.args.place + 1))) (calls_for_walk task (walk_at task c.args.place)) (c.in_ok-read_inputs.ensures.all sure) made))
+    (c.read_input.ensures.all sure)
 
 pub read_inputs-returns-clause-called : goal.read_inputs-returns-clause-called
 read_inputs-returns-clause-called g t c sure =
     let task = c.args.task.now in
     let weight = g.C.Chunks.weight c.args.store.now in
     let tally = next_tally weight task c.args.place (search rules) in
-    on_ok_then c.read_inputs.result
-    (λ called. subst (λ (n : ℕ). Adds n (g.C.Chunks.tally c.args.access.now) (g.C.Chunks.tally c.read_inputs.new.access)) (sym tally)
-    (all_added (g.C.Chunks.tally c.args.access.now) (g.C.Chunks.tally c.read_input.new.access) (g.C.Chunks.tally c.read_inputs.new.access)
-    (tally_for_walk weight task (walk_at task c.args.place)) (tally_for_walks weight task (walks_from task (c.args.place + 1))) (c.in_ok-read_input.ensures.called sure) called))
-    (c.read_inputs.ensures.called sure)
+    let total : tally_for_walks weight task (walks_from task c.args.place) ≡ tally_for_walks weight task (walks_from task (c.args.place + 1)) + tally_for_walk weight task (walk_at task c.args.place) = omega (arith, tally) in
+    on_ok_then c.read_input.result
+    (λ called. subst (λ (n : ℕ). Adds n (g.C.Chunks.tally c.args.access.now) (g.C.Chunks.tally c.read_input.new.access)) (sym total)
+    (all_added (g.C.Chunks.tally c.args.access.now) (g.C.Chunks.tally c.read_inputs.new.access) (g.C.Chunks.tally c.read_input.new.access)
+    (tally_for_walks weight task (walks_from task (c.args.place + 1))) (tally_for_walk weight task (walk_at task c.args.place)) (c.in_ok-read_inputs.ensures.called sure) called))
+    (c.read_input.ensures.called sure)
 
 pub read_inputs-returns-clause-cause : goal.read_inputs-returns-clause-cause
 read_inputs-returns-clause-cause g t c =
-    on_err_more c.read_inputs.result
-    (λ e fault. later_fault (g.C.Chunks.shown c.args.access.now) (g.C.Chunks.shown c.read_input.new.access) (g.C.Chunks.shown c.read_inputs.new.access) c.args.task.now.plan c.args.task.now.op c.args.task.now.number e c.read_input.ensures.step.count fault)
-    c.read_inputs.ensures.cause
+    on_err_more c.read_input.result
+    (λ e fault. later_fault (g.C.Chunks.shown c.args.access.now) (g.C.Chunks.shown c.read_inputs.new.access) (g.C.Chunks.shown c.read_input.new.access) c.args.task.now.plan c.args.task.now.op c.args.task.now.number e c.read_inputs.ensures.step.count fault)
+    c.read_input.ensures.cause
 
 pub read_inputs-returns-clause-open : goal.read_inputs-returns-clause-open
-read_inputs-returns-clause-open g t c = open_then c.read_input.ensures.open c.read_inputs.ensures.open
+read_inputs-returns-clause-open g t c = open_then c.read_inputs.ensures.open c.read_input.ensures.open
 
-pub read_inputs-returns-in_err-read_input-clause-open : goal.read_inputs-returns-in_err-read_input-clause-open
-read_inputs-returns-in_err-read_input-clause-open g t c = c.read_input.ensures.open
+pub read_inputs-returns-in_err-read_inputs-clause-open : goal.read_inputs-returns-in_err-read_inputs-clause-open
+read_inputs-returns-in_err-read_inputs-clause-open g t c = c.read_inputs.ensures.open
 
-pub read_inputs-returns-in_err-read_input-clause-step : goal.read_inputs-returns-in_err-read_input-clause-step
-read_inputs-returns-in_err-read_input-clause-step g t c =
+pub read_inputs-returns-in_err-read_inputs-clause-step : goal.read_inputs-returns-in_err-read_inputs-clause-step
+read_inputs-returns-in_err-read_inputs-clause-step g t c =
     let calls = next_calls c.args.task.now c.args.place (search rules) in
-    steps_wider (λ key value none. none) (omega arith) (omega (arith, calls)) c.read_input.ensures.step
+    steps_wider (λ key value none. none) (omega arith) (omega (arith, calls)) c.read_inputs.ensures.step
 
-pub read_inputs-returns-in_err-read_input-clause-read : goal.read_inputs-returns-in_err-read_input-clause-read
-read_inputs-returns-in_err-read_input-clause-read g t c held still = let p = err_from_is_err_and c.from_residual.result c.from_residual.ensures.1 in rw p.1 tt
+pub read_inputs-returns-in_err-read_inputs-clause-read : goal.read_inputs-returns-in_err-read_inputs-clause-read
+read_inputs-returns-in_err-read_inputs-clause-read g t c held still = let p = err_from_is_err_and c.from_residual.result c.from_residual.ensures.1 in rw p.1 tt
 
-pub read_inputs-returns-in_err-read_input-clause-all : goal.read_inputs-returns-in_err-read_input-clause-all
-read_inputs-returns-in_err-read_input-clause-all g t c sure = let p = err_from_is_err_and c.from_residual.result c.from_residual.ensures.1 in rw p.1 tt
+pub read_inputs-returns-in_err-read_inputs-clause-all : goal.read_inputs-returns-in_err-read_inputs-clause-all
+read_inputs-returns-in_err-read_inputs-clause-all g t c sure = let p = err_from_is_err_and c.from_residual.result c.from_residual.ensures.1 in rw p.1 tt
 
-pub read_inputs-returns-in_err-read_input-clause-called : goal.read_inputs-returns-in_err-read_input-clause-called
-read_inputs-returns-in_err-read_input-clause-called g t c sure = let p = err_from_is_err_and c.from_residual.result c.from_residual.ensures.1 in rw p.1 tt
+pub read_inputs-returns-in_err-read_inputs-clause-called : goal.read_inputs-returns-in_err-read_inputs-clause-called
+read_inputs-returns-in_err-read_inputs-clause-called g t c sure = let p = err_from_is_err_and c.from_residual.result c.from_residual.ensures.1 in rw p.1 tt
 
-pub read_inputs-returns-in_err-read_input-clause-cause : goal.read_inputs-returns-in_err-read_input-clause-cause
-read_inputs-returns-in_err-read_input-clause-cause g t c = let p = err_from_is_err_and c.from_residual.result c.from_residual.ensures.1 in rw (p.1, p.2) c.in_err-read_input.ensures.cause
+pub read_inputs-returns-in_err-read_inputs-clause-cause : goal.read_inputs-returns-in_err-read_inputs-clause-cause
+read_inputs-returns-in_err-read_inputs-clause-cause g t c = let p = err_from_is_err_and c.from_residual.result c.from_residual.ensures.1 in rw (p.1, p.2) c.in_err-read_inputs.ensures.cause
 
 -- ---- read_input
 
@@ -495,11 +697,26 @@ read_input-read_walk-requires-clause-scratch g t c =
     let listed = as_listed task c.args.place w c.requires.place c.input_walk-walk.ensures.walk in
     let own = scratch_read task.plan.arrays (op_of task.plan task.op) w.array (read_of task.plan c.input_walk-walk.ensures.sound task.op task.number w listed) in
     let work = scratch_of_work task.plan task.op in
-    let most = c.requires.scratch in
-    omega (arith, own, work, most)
+    let most = c.requires.room in
+    let same = ap (walk_room task.plan.arrays) c.input_walk-walk.ensures.walk in
+    let bytes = c.walk_bytes.ensures.bytes in
+    let front = c.split_at_mut-scratch.ensures.front_len in
+    omega (arith, own, work, most, same, bytes, front)
+
+pub read_input-overflow_sub-before : goal.read_input-overflow_sub-before
+read_input-overflow_sub-before g t c =
+    let most = c.requires.room in
+    let same = ap (walk_room c.args.task.now.plan.arrays) c.input_walk-walk.ensures.walk in
+    let bytes = c.walk_bytes.ensures.bytes in
+    omega (arith, most, same, bytes)
 
 pub read_input-read_walk-requires-clause-room : goal.read_input-read_walk-requires-clause-room
-read_input-read_walk-requires-clause-room g t c = c.requires.room ∙ ap (walk_room c.args.task.now.plan.arrays) (sym c.input_walk-walk.ensures.walk)
+read_input-read_walk-requires-clause-room g t c =
+    let most = c.requires.room in
+    let same = ap (walk_room c.args.task.now.plan.arrays) c.input_walk-walk.ensures.walk in
+    let bytes = c.walk_bytes.ensures.bytes in
+    let back = c.split_at_mut-scratch.ensures.back_len in
+    omega (arith, most, same, bytes, back)
 
 pub read_input-returns-in-None-clause-read : goal.read_input-returns-in-None-clause-read
 read_input-returns-in-None-clause-read g t c held still =
@@ -510,8 +727,15 @@ read_input-returns-in-None-clause-read g t c held still =
     let listed = as_listed task c.args.place w c.requires.place same in
     let as_is = subst (IsReadAsIs task.plan.arrays) (sym same) (c.inner_task.ensures.none c.in-None.is) in
     let fewer = still_fewer (IsTaskKey task.plan task.op task.number) (IsWalkKey task.plan.arrays w) held (g.C.Chunks.shown c.args.access.now) (own_key task.plan s task.op task.number w listed as_is) still in
+    let most = c.requires.room in
+    let rooms = ap (walk_room task.plan.arrays) same in
+    let bytes = c.walk_bytes.ensures.bytes in
+    let back = c.split_at_mut-scratch.ensures.back_len in
+    let long = c.read_walk.auto.out in
+    let tail = last_part c.read_walk.new.scratch c.read_walk.new.out (walk_room task.plan.arrays (walk_at task c.args.place)) (omega (arith, most, rooms, bytes, back, long)) in
     on_ok_then c.read_walk.result
-    (λ reads. subst (λ (v : Walk). HasWalk task (held_inputs task held) v c.read_walk.new.out) same (read_has task.plan s w held c.read_walk.new.out c.input_walk-walk.ensures.over as_is reads))
+    (λ reads. subst (HasWalk task (held_inputs task held) (walk_at task c.args.place)) (sym tail)
+    (subst (λ (v : Walk). HasWalk task (held_inputs task held) v c.read_walk.new.out) same (read_has task.plan s w held c.read_walk.new.out c.input_walk-walk.ensures.over as_is reads)))
     (c.read_walk.ensures.read held fewer)
 
 as_calls : (t : TaskView) (s : Sound t.plan) (place : ℕ) (w : Walk) → w ≡ walk_at t place → IsReadAsIs t.plan.arrays (walk_at t place)
@@ -548,14 +772,14 @@ read_input-returns-in-None-clause-cause g t c =
     c.read_walk.ensures.cause
 
 -- and one that is made
-pub read_input-make_inner-requires : goal.read_input-make_inner-requires
-read_input-make_inner-requires g t c κs sub =
+pub read_input-make_result-requires : goal.read_input-make_result-requires
+read_input-make_result-requires g t c κs sub =
     let st = c.in-Some.ensures.made in
     let before = st.before in
     let room = c.requires.room in
     let made = st.room in
-    let scratch = c.requires.scratch in
     let own = st.scratch in
+    let only = st.only in
     let words = c.requires.words in
     let own_words = st.words in (
       omega (arith, c.decreases, before),
@@ -569,7 +793,7 @@ read_input-make_inner-requires g t c κs sub =
               c.requires.belongs,
               (
                 (λ key here. c.requires.may key (st.keys key here)),
-                (st.only, (room ∙ sym made, (omega (arith, scratch, own), (st.small, omega (arith, words, own_words))))),
+                (omega (arith, room, made, own, only), omega (arith, words, own_words)),
               ),
             ),
           ),
@@ -583,60 +807,22 @@ read_input-returns-in-Some-clause-read g t c held still =
     let inner = c.in-Some.inner in
     let st = c.in-Some.ensures.made in
     let fewer = still_fewer (IsTaskKey task.plan task.op task.number) (IsTaskKey inner.plan inner.op inner.number) held (g.C.Chunks.shown c.args.access.now) st.keys still in
-    on_ok_then c.make_inner.result (λ made. st.values held c.make_inner.new.output made) (c.make_inner.ensures.made held fewer)
+    on_ok_then c.make_result.result
+    (λ made. subst (λ (n : ℕ). HasWalk task (held_inputs task held) (walk_at task c.args.place) (last_bytes n c.make_result.new.room)) st.room (st.values held (output_in inner c.make_result.new.room) made.output))
+    (c.make_result.ensures.made held fewer)
 
 pub read_input-returns-in-Some-clause-step : goal.read_input-returns-in-Some-clause-step
 read_input-returns-in-Some-clause-step g t c =
-    subst (λ (n : ℕ). Steps NoChange 0 n (g.C.Chunks.shown c.args.access.now) (g.C.Chunks.shown c.make_inner.new.access)) c.in-Some.ensures.made.calls c.make_inner.ensures.step
+    subst (λ (n : ℕ). Steps NoChange 0 n (g.C.Chunks.shown c.args.access.now) (g.C.Chunks.shown c.make_result.new.access)) c.in-Some.ensures.made.calls c.make_result.ensures.step
 
 pub read_input-returns-in-Some-clause-all : goal.read_input-returns-in-Some-clause-all
 read_input-returns-in-Some-clause-all g t c sure =
-    subst (λ (n : ℕ). OnOk c.make_inner.result (Made n (g.C.Chunks.shown c.args.access.now).calls (g.C.Chunks.shown c.make_inner.new.access).calls)) c.in-Some.ensures.made.calls (c.make_inner.ensures.all (c.in-Some.ensures.made.sure sure))
+    subst (λ (n : ℕ). OnOk c.make_result.result (Made n (g.C.Chunks.shown c.args.access.now).calls (g.C.Chunks.shown c.make_result.new.access).calls)) c.in-Some.ensures.made.calls (c.make_result.ensures.all (c.in-Some.ensures.made.sure sure))
 
 pub read_input-returns-in-Some-clause-called : goal.read_input-returns-in-Some-clause-called
 read_input-returns-in-Some-clause-called g t c sure =
-    subst (λ (n : ℕ). OnOk c.make_inner.result (Adds n (g.C.Chunks.tally c.args.access.now) (g.C.Chunks.tally c.make_inner.new.access))) (c.in-Some.ensures.made.tally (g.C.Chunks.weight c.args.store.now)) (c.make_inner.ensures.called (c.in-Some.ensures.made.sure sure))
+    subst (λ (n : ℕ). OnOk c.make_result.result (Adds n (g.C.Chunks.tally c.args.access.now) (g.C.Chunks.tally c.make_result.new.access))) (c.in-Some.ensures.made.tally (g.C.Chunks.weight c.args.store.now)) (c.make_result.ensures.called (c.in-Some.ensures.made.sure sure))
 
 pub read_input-returns-in-Some-clause-cause : goal.read_input-returns-in-Some-clause-cause
 read_input-returns-in-Some-clause-cause g t c =
-    on_err_more c.make_inner.result (c.in-Some.ensures.made.faults (g.C.Chunks.shown c.args.access.now) (g.C.Chunks.shown c.make_inner.new.access)) c.make_inner.ensures.cause
-
--- ---- make_inner
-
-pub make_inner-make_result-requires : goal.make_inner-make_result-requires
-make_inner-make_result-requires g t c κs sub =
-    let kept = c.kept_bytes.ensures in
-    let front = c.split_at_mut-inputs.ensures.front_len in
-    let back = c.split_at_mut-inputs.ensures.back_len in
-    let none = c.split_at_mut-values.ensures.front_len in
-    let left = c.split_at_mut-values.ensures.back_len in
-    let scratch = c.requires.scratch in
-    let only = c.requires.only in (
-      omega (arith, c.decreases),
-      (
-        search rules,
-        (
-          search rules,
-          (
-            search rules,
-            (
-              c.requires.belongs,
-              (
-                c.requires.may,
-                record {
-                  scratch = omega (arith, kept, back, left, scratch);
-                  inputs = omega (arith, kept, front);
-                  values = omega (arith, none, only);
-                  output = c.requires.output;
-                  words = c.requires.words;
-                },
-              ),
-            ),
-          ),
-        ),
-      ),
-    )
-
-pub make_inner-returns-clause-made : goal.make_inner-returns-clause-made
-make_inner-returns-clause-made g t c held still =
-    on_ok_then c.make_result.result (λ made. subst (λ (out : List ℕ). HasMade c.args.task.now (held_inputs c.args.task.now held) out) (search rules) made.output) (c.make_result.ensures.made held still)
+    on_err_more c.make_result.result (c.in-Some.ensures.made.faults (g.C.Chunks.shown c.args.access.now) (g.C.Chunks.shown c.make_result.new.access)) c.make_result.ensures.cause

@@ -16,6 +16,3 @@ decreases-read_inputs g l = 16 * l.task.now.op + 3 + (8 - l.place)
 
 abbrev pub decreases-read_input : goal.decreases-read_input
 decreases-read_input g l = 16 * l.task.now.op + 2
-
-abbrev pub decreases-make_inner : goal.decreases-make_inner
-decreases-make_inner g l = 16 * l.task.now.op + 14

@@ -1,42 +1,71 @@
-use Rattle.std.proofs.Common.{ℕ, ◌∙◌, sym, subst, arith, None, Some}
+use Rattle.std.proofs.Common.{ℕ, ◌-◌, ◌∙◌, length, sym, subst, arith, None, Some}
+use Rattle.std.proofs.lemmas.List.{length-append, length-drop}
 use Rattle.std.specs.Prelude.{slice_index}
 use Rattle.cu_store.specs.Steps.{NoChange, Steps}
 use Rattle.cu_op.specs.Schedule.{op_of}
 use Rattle.cu_store.specs.Chunks.{Adds}
 use Rattle.cu_task.specs.Calls.{chunk_calls, chunk_tally, read_calls}
-use Rattle.cu_task.specs.ViewJobs.{job_weight, view_task_of}
+use Rattle.cu_task.specs.ViewJobs.{buffer_in, buffer_room, job_weight, view_task_of}
+use Rattle.cu_task.specs.Views.{HasPulled}
 use Rattle.cu_task.proofs.InputReads.{on_ok_then, on_err_more}
 use Rattle.cu_task.proofs.JobViews.{fitting, of_job}
 use Rattle.cu_task.proofs.PullTask.{source_key, has_values, has_elements, known_sources, view_fault, sure_all, made_from}
+use Rattle.cu_task.proofs.Tails.{last_part}
 use Rattle.cu_task.proofs.TaskRegions.{scratch_read}
 use Rattle.cu_task.proofs.pulls.pull_result.Goals as goal
 
+pub overflow_sub-before : goal.overflow_sub-before
+overflow_sub-before g c =
+    let made = c.result_bytes.ensures.bytes in
+    let room = c.requires.room in
+    omega (arith, made, room)
+
 pub lay_numbers-requires-clause-output : goal.lay_numbers-requires-clause-output
-lay_numbers-requires-clause-output g c = c.requires.output
+lay_numbers-requires-clause-output g c =
+    let made = c.result_bytes.ensures.bytes in
+    let back = c.split_at_mut-output.ensures.back_len in
+    let room = c.requires.room in
+    omega (arith, made, back, room)
 
-pub read_sources-requires-clause-output : goal.read_sources-requires-clause-output
-read_sources-requires-clause-output g c = c.lay_numbers.auto.output ∙ c.requires.output
-
-pub read_sources-requires-clause-scratch : goal.read_sources-requires-clause-scratch
-read_sources-requires-clause-scratch g c =
+pub read_sources-requires-clause-room : goal.read_sources-requires-clause-room
+read_sources-requires-clause-room g c source below =
     let o = of_job c.args.job.now c.requires.job in
-    λ source below. let most = scratch_read c.args.job.now.task.now.plan.arrays (op_of c.args.job.now.task.now.plan c.args.job.now.task.now.op) (slice_index c.args.job.now.ins.now source) (o.among source below) in let room = c.requires.scratch in omega (arith, most, room)
+    let most = scratch_read c.args.job.now.task.now.plan.arrays (op_of c.args.job.now.task.now.plan c.args.job.now.task.now.op) (slice_index c.args.job.now.ins.now source) (o.among source below) in
+    let room = c.requires.room in
+    let long = c.lay_numbers.auto.output in
+    let front = c.split_at_mut-output.ensures.front_len in
+    let back = c.split_at_mut-output.ensures.back_len in
+    let all = length-append c.split_at_mut-output.result.0.now c.lay_numbers.new.output in
+    omega (arith, most, room, long, front, back, all)
 
 pub returns-clause-values : goal.returns-clause-values
 returns-clause-values g c held known =
     let o = of_job c.args.job.now c.requires.job in
     let fit = fitting c.args.job.now c.requires.job in
-    let first = c.lay_numbers.ensures (Some held) in
+    let made = c.result_bytes.ensures.bytes in
+    let back = c.split_at_mut-output.ensures.back_len in
+    let room = c.requires.room in
+    let long = c.lay_numbers.auto.output in
+    let tail = last_part c.split_at_mut-output.result.0.now c.lay_numbers.new.output (buffer_room (view_task_of c.args.job.now)) (omega (arith, made, back, room, long)) in
+    let first = subst (HasPulled (view_task_of c.args.job.now) 0 (Some held)) (sym tail) (c.lay_numbers.ensures (Some held)) in
     on_ok_then c.read_sources.result
-    (λ has idx w. o.value _ idx ∙ has_values (view_task_of c.args.job.now) fit held c.read_sources.new.output has idx w)
+    (λ has idx w. o.value _ idx ∙ has_values (view_task_of c.args.job.now) fit held (buffer_in (view_task_of c.args.job.now) c.read_sources.new.room) has idx w)
     (c.read_sources.ensures.pulled (Some held) (known_sources c.args.job.now.task.now.plan c.requires.job.sound c.args.job.now.task.now.op c.args.job.now.task.now.number c.args.job.now.task.now.operation c.args.job.now.pull.now c.args.job.now.ins.now o held (g.C.Chunks.shown c.args.access.now) known) first)
 
 pub returns-clause-elements : goal.returns-clause-elements
 returns-clause-elements g c =
     let fit = fitting c.args.job.now c.requires.job in
-    let first = c.lay_numbers.ensures None in
+    let made = c.result_bytes.ensures.bytes in
+    let back = c.split_at_mut-output.ensures.back_len in
+    let room = c.requires.room in
+    let long = c.lay_numbers.auto.output in
+    let tail = last_part c.split_at_mut-output.result.0.now c.lay_numbers.new.output (buffer_room (view_task_of c.args.job.now)) (omega (arith, made, back, room, long)) in
+    let first = subst (HasPulled (view_task_of c.args.job.now) 0 None) (sym tail) (c.lay_numbers.ensures None) in
+    let kept = c.read_sources.auto.room in
+    let all = length-append c.split_at_mut-output.result.0.now c.lay_numbers.new.output in
+    let cut = length-drop (length c.read_sources.new.room - buffer_room (view_task_of c.args.job.now)) c.read_sources.new.room in
     on_ok_then c.read_sources.result
-    (λ has. has_elements (view_task_of c.args.job.now) fit c.read_sources.new.output (c.read_sources.auto.output ∙ c.lay_numbers.auto.output ∙ c.requires.output) has)
+    (λ has. has_elements (view_task_of c.args.job.now) fit (buffer_in (view_task_of c.args.job.now) c.read_sources.new.room) (omega (arith, cut, kept, all, long, made, back, room)) has)
     (c.read_sources.ensures.pulled None (λ source below. tt) first)
 
 pub returns-clause-step : goal.returns-clause-step

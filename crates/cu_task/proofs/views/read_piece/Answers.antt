@@ -1,6 +1,6 @@
 use Rattle.std.proofs.Common.{sym, ◌∙◌}
 use Rattle.std.proofs.lemmas.Bool.{true≢false}
-use Rattle.cu_task.specs.ViewJobs.{job_weight, view_task_of}
+use Rattle.cu_task.specs.ViewJobs.{buffer_in, job_weight, view_task_of}
 use Rattle.cu_task.specs.Views.{IsOfChunk}
 use Rattle.cu_task.proofs.ViewChunks.{needed, calls_unneeded, calls_needed, tally_unneeded, tally_needed}
 use Rattle.cu_task.proofs.ViewElements.{takes_nothing}
@@ -8,7 +8,7 @@ use Rattle.cu_task.proofs.views.read_piece.Goals as goal
 
 pub returns-then-not-is_needed-clause-takes : goal.returns-then-not-is_needed-clause-takes
 returns-then-not-is_needed-clause-takes g c told known =
-    takes_nothing (view_task_of c.args.chunk.now.job.now) c.args.chunk.now.source (IsOfChunk (view_task_of c.args.chunk.now.job.now) c.args.chunk.now.source c.args.chunk.now.coord) told c.args.output.now
+    takes_nothing (view_task_of c.args.chunk.now.job.now) c.args.chunk.now.source (IsOfChunk (view_task_of c.args.chunk.now.job.now) c.args.chunk.now.source c.args.chunk.now.coord) told (buffer_in (view_task_of c.args.chunk.now.job.now) c.args.room.now)
     (λ idx i w o part. true≢false (sym (c.is_needed.ensures.needed (needed (view_task_of c.args.chunk.now.job.now) c.args.chunk.now.source c.args.chunk.now.coord (record { idx = idx; i = i; within = w; origin = o; part = part }))) ∙ c.if-not-is_needed.true))
 
 pub returns-then-not-is_needed-clause-step : goal.returns-then-not-is_needed-clause-step

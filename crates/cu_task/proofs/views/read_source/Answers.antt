@@ -39,8 +39,5 @@ read_within-requires-clause-belongs g c = c.requires.belongs
 pub read_within-requires-clause-may : goal.read_within-requires-clause-may
 read_within-requires-clause-may g c = c.requires.may
 
-pub read_within-requires-clause-output : goal.read_within-requires-clause-output
-read_within-requires-clause-output g c = c.requires.output
-
-pub read_within-requires-clause-scratch : goal.read_within-requires-clause-scratch
-read_within-requires-clause-scratch g c = c.requires.scratch
+pub read_within-requires-clause-room : goal.read_within-requires-clause-room
+read_within-requires-clause-room g c = c.requires.room

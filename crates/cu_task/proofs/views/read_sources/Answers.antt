@@ -1,9 +1,9 @@
-use Rattle.std.proofs.Common.{ℕ, ◌+◌, ◌<◌, length, sym, subst, arith, ◌≡◌, ◌∙◌, ◌≤◌}
+use Rattle.std.proofs.Common.{ℕ, ◌+◌, ◌<◌, length, sym, subst, arith, ◌≡◌}
 use Rattle.cu_store.specs.Faults.{Rose}
 use Rattle.cu_store.specs.Steps.{NoChange, Steps}
 use Rattle.cu_store.proofs.Steps.{steps_same, steps_then, steps_wider}
 use Rattle.cu_store.specs.Chunks.{Adds}
-use Rattle.cu_task.specs.ViewJobs.{job_weight, tally_for_sources, view_task_of, source_room}
+use Rattle.cu_task.specs.ViewJobs.{buffer_in, job_weight, tally_for_sources, view_task_of}
 use Rattle.cu_task.specs.Views.{view_calls, source_calls, sure_calls, IsAny, HasPulled}
 use Rattle.cu_task.proofs.JobViews.{fitting}
 use Rattle.cu_task.proofs.ViewChunks.{sure_none, sure_rose, view_calls_more, view_calls_within, view_tally_more}
@@ -35,8 +35,8 @@ loop-source-preserved g c =
       open_ = open_then before.open_ c.read_source.ensures.open;
       pulled = λ told known pulled.
           let later = known_later (view_task_of c.args.job.now) c.loop-source.source told 0 (view_calls (view_task_of c.args.job.now) c.loop-source.source) (g.C.Chunks.shown c.args.access.now) (g.C.Chunks.shown c.loop-source.access) (known c.loop-source.source below) before.step in
-          pulled_more (view_task_of c.args.job.now) c.loop-source.source told c.loop-source.output c.read_source.new.output (before.pulled told known pulled)
-          (takes_before (view_task_of c.args.job.now) (fitting c.args.job.now c.requires.job) c.loop-source.source IsAny told (g.C.Chunks.shown c.loop-source.access) later c.loop-source.output c.read_source.new.output (c.in_ok-read_source.ensures.takes later.now later.known));
+          pulled_more (view_task_of c.args.job.now) c.loop-source.source told (buffer_in (view_task_of c.args.job.now) c.loop-source.room) (buffer_in (view_task_of c.args.job.now) c.read_source.new.room) (before.pulled told known pulled)
+          (takes_before (view_task_of c.args.job.now) (fitting c.args.job.now c.requires.job) c.loop-source.source IsAny told (g.C.Chunks.shown c.loop-source.access) later (buffer_in (view_task_of c.args.job.now) c.loop-source.room) (buffer_in (view_task_of c.args.job.now) c.read_source.new.room) (c.in_ok-read_source.ensures.takes later.now later.known));
       called = λ exact.
           let sums = view_tally_more (job_weight (g.C.Chunks.weight c.args.store.now) c.args.job.now) (view_task_of c.args.job.now) c.loop-source.source in
           let first = before.called exact in
@@ -69,11 +69,11 @@ read_source-requires-clause-job g c = c.requires.job
 pub read_source-requires-clause-source : goal.read_source-requires-clause-source
 read_source-requires-clause-source g c = omega arith
 
-pub read_source-requires-clause-output : goal.read_source-requires-clause-output
-read_source-requires-clause-output g c = c.loop-source.auto.output ∙ c.requires.output
-
-pub read_source-requires-clause-scratch : goal.read_source-requires-clause-scratch
-read_source-requires-clause-scratch g c = subst (λ (n : ℕ). source_room (view_task_of c.args.job.now) c.loop-source.source ≤ n) (sym c.loop-source.auto.scratch) (c.requires.scratch c.loop-source.source (omega arith))
+pub read_source-requires-clause-room : goal.read_source-requires-clause-room
+read_source-requires-clause-room g c =
+    let room = c.requires.room c.loop-source.source (omega arith) in
+    let long = c.loop-source.auto.room in
+    omega (arith, room, long)
 
 pub returns-in_err-read_source-clause-pulled : goal.returns-in_err-read_source-clause-pulled
 returns-in_err-read_source-clause-pulled g c told known pulled = let p = err_from_is_err_and c.from_residual.result c.from_residual.ensures.1 in rw p.1 tt
@@ -97,4 +97,4 @@ pub returns-in_err-read_source-clause-called : goal.returns-in_err-read_source-c
 returns-in_err-read_source-clause-called g c exact = let p = err_from_is_err_and c.from_residual.result c.from_residual.ensures.1 in rw p.1 tt
 
 pub returns-clause-pulled : goal.returns-clause-pulled
-returns-clause-pulled g c told known pulled = let all : c.loop-source.source ≡ length c.args.job.now.ins.now = omega arith in subst (λ (n : ℕ). HasPulled (view_task_of c.args.job.now) n told c.loop-source.output) all (c.loop-source.invariant.pulled told known pulled)
+returns-clause-pulled g c told known pulled = let all : c.loop-source.source ≡ length c.args.job.now.ins.now = omega arith in subst (λ (n : ℕ). HasPulled (view_task_of c.args.job.now) n told (buffer_in (view_task_of c.args.job.now) c.loop-source.room)) all (c.loop-source.invariant.pulled told known pulled)

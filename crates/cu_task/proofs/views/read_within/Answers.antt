@@ -9,7 +9,7 @@ use Rattle.cu_region.proofs.StoredReads.{fault_more}
 use Rattle.std.specs.Prelude.{sum_by}
 use Rattle.cu_region.proofs.Calls.{TallySoFar, tally_none_yet, tally_one_more, tally_all}
 use Rattle.cu_store.specs.Chunks.{Adds}
-use Rattle.cu_task.specs.ViewJobs.{job_weight, view_task_of, source_room}
+use Rattle.cu_task.specs.ViewJobs.{buffer_in, job_weight, view_task_of, source_room}
 use Rattle.cu_task.specs.Views.{source_in, may_read, tally_for, IsSourceKey, IsOfChunk}
 use Rattle.cu_task.proofs.JobViews.{fitting}
 use Rattle.cu_task.proofs.ViewChunks.{CallsSoFar, calls_none_yet, calls_one_more, calls_most, cover_calls, cover_coordinate, all_calls, exact_tally, sure_made}
@@ -30,7 +30,7 @@ loop-coord-init g c =
       calls = calls_none_yet (view_task_of c.args.part.now.job.now) c.args.part.now.source (count_by (may_read (view_task_of c.args.part.now.job.now) c.args.part.now.source) (covering (source_in (view_task_of c.args.part.now.job.now) c.args.part.now.source).layout.grid.chunk c.args.part.now.region.lo c.args.part.now.region.hi)) c.into_iter-coord-iterator.result (g.C.Chunks.shown c.args.access.now)
           (ap (count_by (may_read (view_task_of c.args.part.now.job.now) c.args.part.now.source)) e);
       open_ = open_same (g.C.Chunks.may_get c.args.store.now c.args.access.now) c.requires.belongs;
-      takes = λ told known. so_far_none (view_task_of c.args.part.now.job.now) fit c.args.part.now.source c.requires.part.source c.args.part.now.region c.requires.part.hull told c.into_iter-coord-iterator.result c.args.output.now (λ coord has. subst (λ (x : List (List ℕ)). Contains x coord) (sym e) has);
+      takes = λ told known. so_far_none (view_task_of c.args.part.now.job.now) fit c.args.part.now.source c.requires.part.source c.args.part.now.region c.requires.part.hull told c.into_iter-coord-iterator.result (buffer_in (view_task_of c.args.part.now.job.now) c.args.room.now) (λ coord has. subst (λ (x : List (List ℕ)). Contains x coord) (sym e) has);
       called = λ exact. tally_none_yet (λ coord. tally_for (job_weight (g.C.Chunks.weight c.args.store.now) c.args.part.now.job.now) (view_task_of c.args.part.now.job.now) c.args.part.now.source coord) (sum_by (λ coord. tally_for (job_weight (g.C.Chunks.weight c.args.store.now) c.args.part.now.job.now) (view_task_of c.args.part.now.job.now) c.args.part.now.source coord) (covering (source_in (view_task_of c.args.part.now.job.now) c.args.part.now.source).layout.grid.chunk c.args.part.now.region.lo c.args.part.now.region.hi)) c.into_iter-coord-iterator.result (g.C.Chunks.tally c.args.access.now) (ap (sum_by (λ coord. tally_for (job_weight (g.C.Chunks.weight c.args.store.now) c.args.part.now.job.now) (view_task_of c.args.part.now.job.now) c.args.part.now.source coord)) e);
     }
 
@@ -55,9 +55,9 @@ loop-coord-preserved g c =
       open_ = open_then c.loop-coord.invariant.open_ c.read_piece.ensures.open;
       takes = λ told known.
           let later = known_after (view_task_of c.args.part.now.job.now) c.args.part.now.source told total c.loop-coord.coord-iterator (g.C.Chunks.shown c.args.access.now) (g.C.Chunks.shown c.loop-coord.access) known c.loop-coord.invariant.calls in
-          so_far_more (view_task_of c.args.part.now.job.now) c.args.part.now.source told c.in-Some.coord c.next.new.self c.args.output.now c.loop-coord.output c.read_piece.new.output
-          (subst (λ (x : List (List ℕ)). SoFar (view_task_of c.args.part.now.job.now) c.args.part.now.source told x c.args.output.now c.loop-coord.output) e (c.loop-coord.invariant.takes told known))
-          (takes_before (view_task_of c.args.part.now.job.now) (fitting c.args.part.now.job.now c.requires.part.job) c.args.part.now.source (IsOfChunk (view_task_of c.args.part.now.job.now) c.args.part.now.source c.in-Some.coord) told (g.C.Chunks.shown c.loop-coord.access) later c.loop-coord.output c.read_piece.new.output (c.in_ok-read_piece.ensures.takes later.now later.known));
+          so_far_more (view_task_of c.args.part.now.job.now) c.args.part.now.source told c.in-Some.coord c.next.new.self (buffer_in (view_task_of c.args.part.now.job.now) c.args.room.now) (buffer_in (view_task_of c.args.part.now.job.now) c.loop-coord.room) (buffer_in (view_task_of c.args.part.now.job.now) c.read_piece.new.room)
+          (subst (λ (x : List (List ℕ)). SoFar (view_task_of c.args.part.now.job.now) c.args.part.now.source told x (buffer_in (view_task_of c.args.part.now.job.now) c.args.room.now) (buffer_in (view_task_of c.args.part.now.job.now) c.loop-coord.room)) e (c.loop-coord.invariant.takes told known))
+          (takes_before (view_task_of c.args.part.now.job.now) (fitting c.args.part.now.job.now c.requires.part.job) c.args.part.now.source (IsOfChunk (view_task_of c.args.part.now.job.now) c.args.part.now.source c.in-Some.coord) told (g.C.Chunks.shown c.loop-coord.access) later (buffer_in (view_task_of c.args.part.now.job.now) c.loop-coord.room) (buffer_in (view_task_of c.args.part.now.job.now) c.read_piece.new.room) (c.in_ok-read_piece.ensures.takes later.now later.known));
       called = λ exact. tally_one_more (λ coord. tally_for (job_weight (g.C.Chunks.weight c.args.store.now) c.args.part.now.job.now) (view_task_of c.args.part.now.job.now) c.args.part.now.source coord) (sum_by (λ coord. tally_for (job_weight (g.C.Chunks.weight c.args.store.now) c.args.part.now.job.now) (view_task_of c.args.part.now.job.now) c.args.part.now.source coord) (covering (source_in (view_task_of c.args.part.now.job.now) c.args.part.now.source).layout.grid.chunk c.args.part.now.region.lo c.args.part.now.region.hi)) c.in-Some.coord c.next.new.self (g.C.Chunks.tally c.args.access.now) (g.C.Chunks.tally c.loop-coord.access) (g.C.Chunks.tally c.read_piece.new.access)
           (subst (λ (x : List (List ℕ)). TallySoFar (λ coord. tally_for (job_weight (g.C.Chunks.weight c.args.store.now) c.args.part.now.job.now) (view_task_of c.args.part.now.job.now) c.args.part.now.source coord) (sum_by (λ coord. tally_for (job_weight (g.C.Chunks.weight c.args.store.now) c.args.part.now.job.now) (view_task_of c.args.part.now.job.now) c.args.part.now.source coord) (covering (source_in (view_task_of c.args.part.now.job.now) c.args.part.now.source).layout.grid.chunk c.args.part.now.region.lo c.args.part.now.region.hi)) x (g.C.Chunks.tally c.args.access.now) (g.C.Chunks.tally c.loop-coord.access)) e (c.loop-coord.invariant.called exact)) (c.read_piece.ensures.called exact);
     }
@@ -65,7 +65,7 @@ loop-coord-preserved g c =
 pub returns-clause-takes : goal.returns-clause-takes
 returns-clause-takes g c told known =
     let e : c.loop-coord.coord-iterator ≡ [] = c.in-None.ensures.steps.0 in
-    so_far_all (view_task_of c.args.part.now.job.now) c.args.part.now.source told c.args.output.now c.loop-coord.output (subst (λ (x : List (List ℕ)). SoFar (view_task_of c.args.part.now.job.now) c.args.part.now.source told x c.args.output.now c.loop-coord.output) e (c.loop-coord.invariant.takes told known))
+    so_far_all (view_task_of c.args.part.now.job.now) c.args.part.now.source told (buffer_in (view_task_of c.args.part.now.job.now) c.args.room.now) (buffer_in (view_task_of c.args.part.now.job.now) c.loop-coord.room) (subst (λ (x : List (List ℕ)). SoFar (view_task_of c.args.part.now.job.now) c.args.part.now.source told x (buffer_in (view_task_of c.args.part.now.job.now) c.args.room.now) (buffer_in (view_task_of c.args.part.now.job.now) c.loop-coord.room)) e (c.loop-coord.invariant.takes told known))
 
 pub returns-clause-step : goal.returns-clause-step
 returns-clause-step g c =

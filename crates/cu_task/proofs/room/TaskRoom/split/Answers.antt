@@ -1,67 +1,60 @@
-use Rattle.std.proofs.Common.{length, ap, ◌∙◌, ◌++◌, List, ℕ, arith}
-use Rattle.cu_task.proofs.TaskKinds.{lent_parts}
+use Rattle.std.proofs.Common.{ap, sym, ◌+◌, ◌∙◌, ◌++◌, List, ℕ, take, append_assoc, arith}
+use Rattle.cu_task.specs.Inputs.{last_bytes}
+use Rattle.cu_task.specs.OfTask.{found_bytes, made_bytes}
+use Rattle.cu_task.proofs.Tails.{last_part, part_before_last}
 use Rattle.cu_task.proofs.room.TaskRoom.split.Goals as goal
-
-pub kept_bytes-kept-requires : goal.kept_bytes-kept-requires
-kept_bytes-kept-requires c =
-    let lent = lent_parts c.args.task.now c.result_bytes-made.ensures.sound (length c.args.bytes.now) (length c.args.words.now) c.requires.words c.requires.bytes in
-    let fit = lent.fit in
-    let made = c.result_bytes-made.ensures.bytes in
-    let small = lent.small in
-    omega (arith, fit, small)
 
 pub overflow_sub-before_output : goal.overflow_sub-before_output
 overflow_sub-before_output c =
-    let lent = lent_parts c.args.task.now c.result_bytes-made.ensures.sound (length c.args.bytes.now) (length c.args.words.now) c.requires.words c.requires.bytes in
-    let fit = lent.fit in
-    let made = c.result_bytes-made.ensures.bytes in
-    omega (arith, fit, made)
+    let made = c.result_bytes.ensures.bytes in
+    let room = c.requires in
+    omega (arith, made, room)
 
 pub overflow_sub-before_values : goal.overflow_sub-before_values
 overflow_sub-before_values c =
-    let lent = lent_parts c.args.task.now c.result_bytes-made.ensures.sound (length c.args.bytes.now) (length c.args.words.now) c.requires.words c.requires.bytes in
-    let fit = lent.fit in
-    let made = c.result_bytes-made.ensures.bytes in
-    let found = c.value_bytes-found.ensures in
-    omega (arith, fit, made, found)
-
-pub overflow_sub-before_inputs : goal.overflow_sub-before_inputs
-overflow_sub-before_inputs c =
-    let lent = lent_parts c.args.task.now c.result_bytes-made.ensures.sound (length c.args.bytes.now) (length c.args.words.now) c.requires.words c.requires.bytes in
-    let fit = lent.fit in
-    let made = c.result_bytes-made.ensures.bytes in
-    let found = c.value_bytes-found.ensures in
-    let kept = c.kept_bytes-kept.ensures in
-    omega (arith, fit, made, found, kept)
+    let made = c.result_bytes.ensures.bytes in
+    let found = c.value_bytes.ensures in
+    let room = c.requires in
+    omega (arith, made, found, room)
 
 pub returns-clause-room : goal.returns-clause-room
 returns-clause-room c =
-    let lent = lent_parts c.args.task.now c.result_bytes-made.ensures.sound (length c.args.bytes.now) (length c.args.words.now) c.requires.words c.requires.bytes in
-    let fit = lent.fit in
-    let made = c.result_bytes-made.ensures.bytes in
-    let found = c.value_bytes-found.ensures in
-    let kept = c.kept_bytes-kept.ensures in
-    let output = c.split_at_mut-front.ensures in
-    let values = c.split_at_mut-rest.ensures in
-    let inputs = c.split_at_mut-scratch.ensures in
-    let front = output.front_len in
-    let back = output.back_len in
-    let front2 = values.front_len in
-    let back2 = values.back_len in
-    let front3 = inputs.front_len in
-    let back3 = inputs.back_len in
+    let made = c.result_bytes.ensures.bytes in
+    let found = c.value_bytes.ensures in
+    let room = c.requires in
+    let front = c.split_at_mut-front.ensures.front_len in
+    let back = c.split_at_mut-front.ensures.back_len in
+    let front2 = c.split_at_mut-scratch.ensures.front_len in
+    let back2 = c.split_at_mut-scratch.ensures.back_len in
     record {
-      scratch = omega (arith, fit, made, found, kept, front3);
-      inputs = omega (arith, fit, made, found, kept, front2, back3);
-      values = omega (arith, fit, made, found, front, back2);
-      output = omega (arith, fit, made, back);
-      words = (let count = c.requires.words in omega (arith, count));
+      scratch = omega (arith, room, made, found, front2);
+      values = omega (arith, room, made, found, front, back2);
+      output = omega (arith, room, made, back);
     }
 
 pub returns-clause-together : goal.returns-clause-together
 returns-clause-together c =
     let output = c.split_at_mut-front in
-    let values = c.split_at_mut-rest in
-    let inputs = c.split_at_mut-scratch in
-    output.ensures.value
-    ∙ ap (λ (xs : List ℕ). xs ++ output.result.1.now) (values.ensures.value ∙ ap (λ (xs : List ℕ). xs ++ values.result.1.now) inputs.ensures.value)
+    output.ensures.value ∙ ap (λ (xs : List ℕ). xs ++ output.result.1.now) c.split_at_mut-scratch.ensures.value
+
+pub returns-clause-values : goal.returns-clause-values
+returns-clause-values c =
+    let output = c.split_at_mut-front in
+    let values = c.split_at_mut-scratch in
+    let made = c.result_bytes.ensures.bytes in
+    let found = c.value_bytes.ensures in
+    let back = output.ensures.back_len in
+    let front = output.ensures.front_len in
+    let back2 = values.ensures.back_len in
+    let room = c.requires in
+    let whole = output.ensures.value ∙ ap (λ (xs : List ℕ). xs ++ output.result.1.now) values.ensures.value ∙ append_assoc values.result.0.now values.result.1.now output.result.1.now in
+    sym (ap (λ (xs : List ℕ). take (found_bytes c.args.task.now) (last_bytes (found_bytes c.args.task.now + made_bytes c.args.task.now) xs)) whole
+    ∙ part_before_last values.result.0.now values.result.1.now output.result.1.now _ _ (omega (arith, found, front, back2, room, made)) (omega (arith, made, back, room)))
+
+pub returns-clause-output : goal.returns-clause-output
+returns-clause-output c =
+    let output = c.split_at_mut-front in
+    let made = c.result_bytes.ensures.bytes in
+    let back = output.ensures.back_len in
+    let room = c.requires in
+    sym (ap (last_bytes (made_bytes c.args.task.now)) output.ensures.value ∙ last_part output.result.0.now output.result.1.now _ (omega (arith, made, back, room)))
