@@ -21,7 +21,7 @@ use Rattle.cu_mean.proofs.HeldElements.{computed_holds, computed_keeps}
 use Rattle.cu_mean.proofs.InputNodes.{before_input, before_other, input_holds, inputs_fit}
 use Rattle.cu_mean.proofs.Kept.{node_keeps}
 use Rattle.cu_mean.proofs.ReadyNodes.{ready}
-use Rattle.cu_semantics.proofs.InType.{meaning_fits}
+use Rattle.cu_semantics.proofs.Equation.{meaning_fits}
 
 -- ---- elements
 

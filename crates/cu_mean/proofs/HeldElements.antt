@@ -13,7 +13,7 @@ use Rattle.cu_semantics.specs.Argument.{NodeElements, shape_of_node}
 use Rattle.cu_semantics.specs.Meaning.{meaning_of, AgreeBelow}
 use Rattle.cu_semantics.specs.Rule.{rule_of}
 use Rattle.cu_semantics.specs.Typed.{type_of_node}
-use Rattle.cu_semantics.proofs.Earlier.{node_agrees}
+use Rattle.cu_semantics.proofs.RuleLaws.{node_agrees}
 use Rattle.cu_semantics.proofs.Equation.{equation, outside}
 use Rattle.cu_mean.specs.Going.{HasFirstElements, IsEvaluated, HoldFirst, KeepType}
 use Rattle.cu_mean.specs.Plain.{PlainArray, IsPlain}

@@ -15,7 +15,7 @@ use Rattle.cu_semantics.specs.Meaning.{meaning_of}
 use Rattle.cu_semantics.specs.Rule.{rule_of}
 use Rattle.cu_semantics.specs.Typed.{type_of_node}
 use Rattle.cu_semantics.proofs.Equation.{equation}
-use Rattle.cu_semantics.proofs.Earlier.{node_agrees}
+use Rattle.cu_semantics.proofs.RuleLaws.{node_agrees}
 use Rattle.cu_mean.specs.Going.{input_elements, HoldFirst}
 use Rattle.cu_mean.specs.Laws.{FitsInput, FitInputs}
 use Rattle.cu_mean.specs.Node.{is_input}

@@ -3,7 +3,6 @@ use Rattle.std.proofs.Common.{◌≡◌, ℕ, ◌==◌, ◌&&◌, nat_le, ℤ, B
 use Rattle.cu_result.specs.Results.{◌>>=◌, check}
 use Rattle.cu_result.proofs.ResultSteps.{check_step_ok}
 use Rattle.cu_num.specs.declared.types.Dtype.{Dtype}
-use Rattle.cu_form.specs.declared.form.Form.{Form}
 use Rattle.cu_node.specs.Fault.{fault}
 use Rattle.cu_node.specs.Limited.{limited, limited_beside}
 use Rattle.cu_node.specs.declared.faults.FaultCode.TheVariants.{Axis, Shape}
@@ -14,8 +13,6 @@ use Rattle.cu_node.specs.declared.index_item.IndexItem.{IndexItem}
 use Rattle.cu_typing_view.specs.Entries.{untaken, first_wrong, index_shape, index_chunk, unless_wrong, typed_index}
 use Rattle.cu_typing_view.specs.Rearranged.{typed_same, typed_triangle, is_permutation, permuted_sizes, typed_permute, are_axes, typed_flip, typed_roll}
 use Rattle.cu_typing_view.specs.Reshaped.{stretches_to, typed_broadcast, typed_rechunk}
-use Rattle.cu_typing_view.proofs.NewShapes.{new_shape_type}
-use Rattle.cu_expr.specs.Views.{typed_view}
 
 pub beside_type : (beside : Bool) (t : Dtype) (shape chunk : List ℕ) (i : NodeInfo) → limited_beside beside t shape chunk ≡ Ok i → i.dtype ≡ t
 beside_type beside t shape chunk i h = ap (λ (n : NodeInfo). n.dtype) (given beside t shape chunk i h)
@@ -30,10 +27,10 @@ unless_ok (Some k) r i h = cc
 same_type : (a i : NodeInfo) → typed_same a ≡ Ok i → i.dtype ≡ a.dtype
 same_type a i h = limited_type a.dtype a.dims a.chunk i h
 
-triangle_type : (a i : NodeInfo) → typed_triangle a ≡ Ok i → i.dtype ≡ a.dtype
+pub triangle_type : (a i : NodeInfo) → typed_triangle a ≡ Ok i → i.dtype ≡ a.dtype
 triangle_type a i h = same_type a i (check_step_ok (nat_le 2 (length a.dims)) (fault Axis) (λ _. typed_same a) i h).1
 
-index_type : (a : NodeInfo) (items : List IndexItem) (i : NodeInfo) → typed_index a items ≡ Ok i → i.dtype ≡ a.dtype
+pub index_type : (a : NodeInfo) (items : List IndexItem) (i : NodeInfo) → typed_index a items ≡ Ok i → i.dtype ≡ a.dtype
 index_type a items i h =
     let more = untaken (length a.dims) items in
     let shape = index_shape more items a.dims in
@@ -44,29 +41,17 @@ index_type a items i h =
 pub checked_type : (b : Bool) (e : NodeFault) (t : Dtype) (shape chunk : List ℕ) (i : NodeInfo) → (check b e >>= λ _. limited t shape chunk) ≡ Ok i → i.dtype ≡ t
 checked_type b e t shape chunk i h = limited_type t shape chunk i (check_step_ok b e (λ _. limited t shape chunk) i h).1
 
-permute_type : (a : NodeInfo) (axes : List ℤ) (i : NodeInfo) → typed_permute a axes ≡ Ok i → i.dtype ≡ a.dtype
+pub permute_type : (a : NodeInfo) (axes : List ℤ) (i : NodeInfo) → typed_permute a axes ≡ Ok i → i.dtype ≡ a.dtype
 permute_type a axes i h = checked_type (is_permutation (length a.dims) axes) (fault Axis) a.dtype (permuted_sizes axes a.dims) (permuted_sizes axes a.chunk) i h
 
-flip_type : (a : NodeInfo) (axes : Option (List ℤ)) (i : NodeInfo) → typed_flip a axes ≡ Ok i → i.dtype ≡ a.dtype
+pub flip_type : (a : NodeInfo) (axes : Option (List ℤ)) (i : NodeInfo) → typed_flip a axes ≡ Ok i → i.dtype ≡ a.dtype
 flip_type a axes i h = checked_type (are_axes (length a.dims) axes) (fault Axis) a.dtype a.dims a.chunk i h
 
-roll_type : (a : NodeInfo) (shifts axes : List ℤ) (i : NodeInfo) → typed_roll a shifts axes ≡ Ok i → i.dtype ≡ a.dtype
+pub roll_type : (a : NodeInfo) (shifts axes : List ℤ) (i : NodeInfo) → typed_roll a shifts axes ≡ Ok i → i.dtype ≡ a.dtype
 roll_type a shifts axes i h = checked_type (length shifts == length axes && are_axes (length a.dims) (Some axes)) (fault Axis) a.dtype a.dims a.chunk i h
 
-broadcast_type : (a : NodeInfo) (shape chunk : List ℕ) (i : NodeInfo) → typed_broadcast a shape chunk ≡ Ok i → i.dtype ≡ a.dtype
+pub broadcast_type : (a : NodeInfo) (shape chunk : List ℕ) (i : NodeInfo) → typed_broadcast a shape chunk ≡ Ok i → i.dtype ≡ a.dtype
 broadcast_type a shape chunk i h = checked_type (stretches_to a.dims shape && length chunk == length shape) (fault Shape) a.dtype shape chunk i h
 
-rechunk_type : (a : NodeInfo) (chunk : List ℕ) (i : NodeInfo) → typed_rechunk a chunk ≡ Ok i → i.dtype ≡ a.dtype
+pub rechunk_type : (a : NodeInfo) (chunk : List ℕ) (i : NodeInfo) → typed_rechunk a chunk ≡ Ok i → i.dtype ≡ a.dtype
 rechunk_type a chunk i h = checked_type (length chunk == length a.dims) (fault Shape) a.dtype a.dims chunk i h
-
--- a view's type, by its form; the last row is of the forms that are no views
-pub view_type : (form : Form) (a i : NodeInfo) → typed_view form a ≡ Ok i → i.dtype ≡ a.dtype
-view_type (Form.Triangle lower args k) a i h = triangle_type a i h
-view_type (Form.Index args items) a i h = index_type a items i h
-view_type (Form.PermuteDims args axes) a i h = permute_type a axes i h
-view_type (Form.Reshape args shape) a i h = new_shape_type a i shape h
-view_type (Form.Flip args axes) a i h = flip_type a axes i h
-view_type (Form.Roll args shifts axes) a i h = roll_type a shifts axes i h
-view_type (Form.BroadcastTo args shape chunk) a i h = broadcast_type a shape chunk i h
-view_type (Form.Rechunk args chunk) a i h = rechunk_type a chunk i h
-view_type form a i h = cc

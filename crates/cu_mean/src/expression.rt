@@ -9,7 +9,7 @@ ghost use Rattle.cu_mean.specs.Plain.{PlainArray};
 ghost use Rattle.cu_mean.specs.Whole.{AreTypes, AreInputNodes, HoldInputs, HoldMeaning};
 
 use crate::digits::index_at;
-use crate::element::{element_at, is_input};
+use crate::node::{element_at, is_input};
 use crate::plain::{Plain, Plains};
 use crate::scope::Scope;
 use cu_expr::Types;

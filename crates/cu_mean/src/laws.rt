@@ -10,7 +10,8 @@ ghost use Rattle.cu_expr.specs.Typing.{typed};
 ghost use Rattle.cu_expr.specs.declared.inputs.InputInfo.{InputInfo};
 ghost use Rattle.cu_semantics.specs.Argument.{NodeElements};
 ghost use Rattle.cu_semantics.specs.Meaning.{meaning_of};
-ghost use Rattle.cu_semantics.specs.Typed.{type_of_node, KeepsType};
+ghost use Rattle.cu_semantics.specs.Rule.{KeepsType};
+ghost use Rattle.cu_semantics.specs.Typed.{type_of_node};
 ghost use Rattle.cu_mean.specs.Laws.{FitInputs};
 
 /// The types that typing gives are those that each form keeps, where the elements of the inputs are numbers of their types.

@@ -4,7 +4,6 @@
 mod axes;
 mod creation;
 mod digits;
-mod element;
 mod elementwise;
 mod expression;
 mod grouped;

@@ -1,4 +1,4 @@
-//! The element of a node at an index, by its operator.
+//! The element of a node at an index, by its form: a function for each operator, and their choice.
 ghost use Rattle.std.specs.Prelude.{◌≡◌, pos, All};
 ghost use Rattle.cu_shape.specs.Index.{IsInside, product};
 ghost use Rattle.cu_form.specs.declared.form.Form.{Form};
@@ -8,10 +8,11 @@ ghost use Rattle.cu_semantics.specs.Reduction.{reduced_elements};
 ghost use Rattle.cu_reduce.specs.Places.{best_place};
 ghost use Rattle.cu_semantics.specs.View.{same_place};
 ghost use Rattle.cu_mean.specs.Axes.{axes_in};
-ghost use Rattle.cu_mean.specs.Node.{IsReadyAt, IsElementAt};
+ghost use Rattle.cu_mean.specs.Node.{is_input, IsReadyAt, IsElementAt};
 ghost use Rattle.cu_mean.specs.Reading.{elements_in};
 
 use crate::axes::{NamedAxes, axes_listed, axis_in};
+use crate::creation::{arange_at, eye_at, literal_number};
 use crate::elementwise::function_at;
 use crate::grouped::group_at;
 use crate::indexing::indexed;
@@ -23,13 +24,13 @@ use crate::reductions::{reduced, reduced_box, reduced_start};
 use crate::scope::Scope;
 use crate::summed::{line_axis, sum_up_to};
 use crate::views::{flipped, is_in_triangle, permuted, rolled, same_place};
-use cu_form::{Arg, ElementOp, IndexItem, Items, group_kind};
+use cu_form::{Arg, ElementOp, Form, IndexItem, Items, group_kind};
 use cu_node::{NewShape, size_at};
 use cu_num::FoldKind;
 use cu_shape::back;
 
 /// An elementwise function.
-pub(crate) fn elementwise_at(op: ElementOp, args: &Items<Arg>, scope: &Scope<'_>) -> i128
+fn elementwise_at(op: ElementOp, args: &Items<Arg>, scope: &Scope<'_>) -> i128
     requires { IsReadyAt (Form.Elementwise op args.now) scope.now }
     ensures { IsElementAt (Form.Elementwise op args.now) scope.now result }
 {
@@ -38,7 +39,7 @@ pub(crate) fn elementwise_at(op: ElementOp, args: &Items<Arg>, scope: &Scope<'_>
 }
 
 /// A reduction.
-pub(crate) fn reduced_at(
+fn reduced_at(
     kind: FoldKind,
     args: &Items<Arg>,
     axes: &Option<Items<i64>>,
@@ -61,7 +62,7 @@ pub(crate) fn reduced_at(
 }
 
 /// A matrix product.
-pub(crate) fn product_at(args: &Items<Arg>, scope: &Scope<'_>) -> i128
+fn product_at(args: &Items<Arg>, scope: &Scope<'_>) -> i128
     requires { IsReadyAt (Form.Matmul args.now) scope.now }
     ensures { IsElementAt (Form.Matmul args.now) scope.now result }
 {
@@ -76,7 +77,7 @@ pub(crate) fn product_at(args: &Items<Arg>, scope: &Scope<'_>) -> i128
 }
 
 /// A prefix sum.
-pub(crate) fn cumulative_node(args: &Items<Arg>, axis: Option<i64>, scope: &Scope<'_>) -> i128
+fn cumulative_node(args: &Items<Arg>, axis: Option<i64>, scope: &Scope<'_>) -> i128
     requires { IsReadyAt (Form.CumulativeSum args.now axis) scope.now }
     ensures { IsElementAt (Form.CumulativeSum args.now axis) scope.now result }
 {
@@ -90,13 +91,7 @@ pub(crate) fn cumulative_node(args: &Items<Arg>, axis: Option<i64>, scope: &Scop
 }
 
 /// A reduction by labels.
-pub(crate) fn grouped_node(
-    least: bool,
-    args: &Items<Arg>,
-    axis: i64,
-    groups: u32,
-    scope: &Scope<'_>,
-) -> i128
+fn grouped_node(least: bool, args: &Items<Arg>, axis: i64, groups: u32, scope: &Scope<'_>) -> i128
     requires { IsReadyAt (Form.GroupBy least args.now axis groups) scope.now }
     ensures { IsElementAt (Form.GroupBy least args.now axis groups) scope.now result }
 {
@@ -140,7 +135,7 @@ fn place_at(
 }
 
 /// `argmin` and `argmax`.
-pub(crate) fn arg_place_at(
+fn arg_place_at(
     least: bool,
     args: &Items<Arg>,
     axis: Option<i64>,
@@ -188,7 +183,7 @@ fn replaced_at(args: &Items<Arg>, scope: &Scope<'_>) -> i128
 }
 
 /// Arrays one behind the other.
-pub(crate) fn concat_node(args: &Items<Arg>, axis: i64, scope: &Scope<'_>) -> i128
+fn concat_node(args: &Items<Arg>, axis: i64, scope: &Scope<'_>) -> i128
     requires { IsReadyAt (Form.Concat args.now axis) scope.now }
     ensures { IsElementAt (Form.Concat args.now axis) scope.now result }
 {
@@ -203,7 +198,7 @@ pub(crate) fn concat_node(args: &Items<Arg>, axis: i64, scope: &Scope<'_>) -> i1
 }
 
 /// Arrays on a new axis.
-pub(crate) fn stack_node(args: &Items<Arg>, axis: i64, scope: &Scope<'_>) -> i128
+fn stack_node(args: &Items<Arg>, axis: i64, scope: &Scope<'_>) -> i128
     requires { IsReadyAt (Form.Stack args.now axis) scope.now }
     ensures { IsElementAt (Form.Stack args.now axis) scope.now result }
 {
@@ -217,7 +212,7 @@ pub(crate) fn stack_node(args: &Items<Arg>, axis: i64, scope: &Scope<'_>) -> i12
 }
 
 /// An array whose axes are moved.
-pub(crate) fn permuted_node(args: &Items<Arg>, axes: &Items<i64>, scope: &Scope<'_>) -> i128
+fn permuted_node(args: &Items<Arg>, axes: &Items<i64>, scope: &Scope<'_>) -> i128
     requires { IsReadyAt (Form.PermuteDims args.now axes.now) scope.now }
     ensures { IsElementAt (Form.PermuteDims args.now axes.now) scope.now result }
 {
@@ -226,7 +221,7 @@ pub(crate) fn permuted_node(args: &Items<Arg>, axes: &Items<i64>, scope: &Scope<
 }
 
 /// An array in another shape.
-pub(crate) fn reshaped_node(args: &Items<Arg>, shape: &NewShape, scope: &Scope<'_>) -> i128
+fn reshaped_node(args: &Items<Arg>, shape: &NewShape, scope: &Scope<'_>) -> i128
     requires { IsReadyAt (Form.Reshape args.now shape.now) scope.now }
     ensures { IsElementAt (Form.Reshape args.now shape.now) scope.now result }
 {
@@ -234,7 +229,7 @@ pub(crate) fn reshaped_node(args: &Items<Arg>, shape: &NewShape, scope: &Scope<'
 }
 
 /// An array that is stretched.
-pub(crate) fn stretched_node(
+fn stretched_node(
     args: &Items<Arg>,
     shape: &Items<u64>,
     chunk: &Items<u64>,
@@ -249,7 +244,7 @@ pub(crate) fn stretched_node(
 }
 
 /// An array that is turned round along axes.
-pub(crate) fn flipped_node(args: &Items<Arg>, axes: &Option<Items<i64>>, scope: &Scope<'_>) -> i128
+fn flipped_node(args: &Items<Arg>, axes: &Option<Items<i64>>, scope: &Scope<'_>) -> i128
     requires { IsReadyAt (Form.Flip args.now axes.now) scope.now }
     ensures { IsElementAt (Form.Flip args.now axes.now) scope.now result }
 {
@@ -258,12 +253,7 @@ pub(crate) fn flipped_node(args: &Items<Arg>, axes: &Option<Items<i64>>, scope: 
 }
 
 /// An array whose elements are moved along axes.
-pub(crate) fn rolled_node(
-    args: &Items<Arg>,
-    shifts: &Items<i64>,
-    axes: &Items<i64>,
-    scope: &Scope<'_>,
-) -> i128
+fn rolled_node(args: &Items<Arg>, shifts: &Items<i64>, axes: &Items<i64>, scope: &Scope<'_>) -> i128
     requires { IsReadyAt (Form.Roll args.now shifts.now axes.now) scope.now }
     ensures { IsElementAt (Form.Roll args.now shifts.now axes.now) scope.now result }
 {
@@ -277,7 +267,7 @@ pub(crate) fn rolled_node(
 }
 
 /// A triangle of an array.
-pub(crate) fn triangle_node(args: &Items<Arg>, lower: bool, k: i64, scope: &Scope<'_>) -> i128
+fn triangle_node(args: &Items<Arg>, lower: bool, k: i64, scope: &Scope<'_>) -> i128
     requires { IsReadyAt (Form.Triangle lower args.now k) scope.now }
     ensures { IsElementAt (Form.Triangle lower args.now k) scope.now result }
 {
@@ -289,7 +279,7 @@ pub(crate) fn triangle_node(args: &Items<Arg>, lower: bool, k: i64, scope: &Scop
 }
 
 /// An array in other chunks.
-pub(crate) fn rechunked_node(args: &Items<Arg>, chunk: &Items<u64>, scope: &Scope<'_>) -> i128
+fn rechunked_node(args: &Items<Arg>, chunk: &Items<u64>, scope: &Scope<'_>) -> i128
     requires { IsReadyAt (Form.Rechunk args.now chunk.now) scope.now }
     ensures { IsElementAt (Form.Rechunk args.now chunk.now) scope.now result }
 {
@@ -297,7 +287,7 @@ pub(crate) fn rechunked_node(args: &Items<Arg>, chunk: &Items<u64>, scope: &Scop
 }
 
 /// An array that is indexed.
-pub(crate) fn indexed_node(args: &Items<Arg>, items: &Items<IndexItem>, scope: &Scope<'_>) -> i128
+fn indexed_node(args: &Items<Arg>, items: &Items<IndexItem>, scope: &Scope<'_>) -> i128
     requires { IsReadyAt (Form.Index args.now items.now) scope.now }
     ensures { IsElementAt (Form.Index args.now items.now) scope.now result }
 {
@@ -306,5 +296,56 @@ pub(crate) fn indexed_node(args: &Items<Arg>, items: &Items<IndexItem>, scope: &
     match indexed(items.as_slice(), &shape, scope.idx) {
         Some(read) => source(scope.plains, args, 0, &read),
         None => 0,
+    }
+}
+
+/// Whether a node is an input.
+pub(crate) fn is_input(form: &Form) -> bool
+    ensures { result ≡ is_input form.now }
+{
+    matches!(form, Form::Input { .. })
+}
+
+/// The element of a node other than an input at an index of its array.
+pub(crate) fn element_at(form: &Form, scope: &Scope<'_>) -> i128
+    requires { IsReadyAt form.now scope.now }
+    ensures { IsElementAt form.now scope.now result }
+{
+    match form {
+        Form::Input { .. } => 0,
+        Form::Elementwise { op, args } => elementwise_at(*op, args, scope),
+        Form::Full { value, .. } => literal_number(*value),
+        Form::Arange { start, step, .. } => arange_at(*start, *step, scope.idx),
+        Form::Eye { k, .. } => eye_at(*k, scope.idx),
+        Form::Triangle { lower, args, k } => triangle_node(args, *lower, *k, scope),
+        Form::Index { args, items } => indexed_node(args, items, scope),
+        Form::Concat { args, axis } => concat_node(args, *axis, scope),
+        Form::Stack { args, axis } => stack_node(args, *axis, scope),
+        Form::PermuteDims { args, axes } => permuted_node(args, axes, scope),
+        Form::Reshape { args, shape } => reshaped_node(args, shape, scope),
+        Form::Flip { args, axes } => flipped_node(args, axes, scope),
+        Form::Roll { args, shifts, axes } => rolled_node(args, shifts, axes, scope),
+        Form::BroadcastTo { args, shape, chunk } => stretched_node(args, shape, chunk, scope),
+        Form::Rechunk { args, chunk } => rechunked_node(args, chunk, scope),
+        Form::Reduce {
+            kind,
+            args,
+            axes,
+            keepdims,
+        } => reduced_at(*kind, args, axes, *keepdims, scope),
+        Form::ArgPlace {
+            least,
+            args,
+            axis,
+            keepdims,
+        } => arg_place_at(*least, args, *axis, *keepdims, scope),
+        Form::Matmul { args } => product_at(args, scope),
+        Form::CumulativeSum { args, axis } => cumulative_node(args, *axis, scope),
+        Form::GroupBy {
+            least,
+            args,
+            axis,
+            groups,
+        } => grouped_node(*least, args, *axis, *groups, scope),
     }
 }

@@ -1,5 +1,5 @@
 -- An index that is read has fewer than 2^32 entries.
-use Rattle.std.proofs.Common.{◌≡◌, ℕ, zero, suc, ◌+◌, ◌≤◌, ◌<◌, ◌^◌, List, [], ◌∷◌, ◌++◌, length, codes, Option, Some, None, Ordering, Less, Equal, Greater, subst, arith, length-append}
+use Rattle.std.proofs.Common.{◌≡◌, inl, inr, ℕ, zero, suc, ◌+◌, ◌≤◌, ◌<◌, ◌^◌, List, [], ◌∷◌, ◌++◌, length, codes, Option, Some, None, Ordering, Less, Equal, Greater, subst, arith, length-append}
 use Rattle.std.specs.Ordering.{nat_cmp, match_ordering}
 use Rattle.std.specs.Cmp.Lexicographic.{slice_cmp}
 use Rattle.serde_json.specs.Data.{Data, Items, no_items, item, Members, no_members, member}
@@ -81,7 +81,11 @@ index_within name d items h =
 -- ---- nodes
 
 short_form : (ids : List (List ℕ)) (op : List ℕ) (d : Data) (form : Form) → item_count d < 2 ^ 32 → IsRow ids op d form → HasShortIndex form
-short_form ids op d (Form.Index args items) few h = let w = index_within (codes "index") d items h.2 in omega arith
+short_form ids op d (Form.Index args items) few (inl h) = absurd h
+short_form ids op d (Form.Index args items) few (inr (inl h)) = absurd h
+short_form ids op d (Form.Index args items) few (inr (inr (inl h))) = let w = index_within (codes "index") d items h.2 in omega arith
+short_form ids op d (Form.Index args items) few (inr (inr (inr (inl h)))) = absurd h
+short_form ids op d (Form.Index args items) few (inr (inr (inr (inr h)))) = absurd h
 short_form ids op d form few h = tt
 
 pub say_short : (ids : List (List ℕ)) (ds : Items) (nodes : List Node) → items_count ds < 2 ^ 32 → SayNodes ids ds nodes → HaveShortIndices nodes

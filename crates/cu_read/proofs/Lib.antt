@@ -3,7 +3,6 @@ mod EntriesRead
 mod Examples
 mod Families
 mod IndexLength
-mod NewShapes
 pub mod NoFloats
 pub mod NodesRead
 mod Passing
@@ -11,7 +10,8 @@ mod PlainMembers
 mod PlainNodes
 mod PlainReaders
 pub mod Ranges
-pub mod RowForms
+pub mod Row
+pub mod RowLaws
 pub mod RowsRead
 pub mod SaidRead
 pub mod Says

@@ -5,12 +5,11 @@ use Rattle.serde_json.specs.Find.{as_bool, as_str}
 use Rattle.serde_json.specs.Written.{has_float}
 use Rattle.cu_json.specs.Form.{is_object_of}
 use Rattle.cu_form.specs.declared.args.Arg.{Arg}
-use Rattle.cu_read.specs.Args.{arg_of}
-use Rattle.cu_read.specs.Form.{HasArgs}
+use Rattle.cu_read.specs.Args.{arg_of, HasArgs}
 use Rattle.cu_read.specs.Lists.{entries_of}
-use Rattle.cu_read.specs.Members.{or_null, present, IsObjectOf, Has, MayHave}
+use Rattle.cu_read.specs.Members.{chunk_sizes_of, or_null, present, IsObjectOf, Has, MayHave}
 use Rattle.cu_read.proofs.PlainMembers.{IsPlainReader, Hold, are_distinct, hold_none, and_has, and_may, object_plain}
-use Rattle.cu_read.proofs.PlainReaders.{truth_plain, text_plain, or_null_plain, args_plain}
+use Rattle.cu_read.proofs.PlainReaders.{truth_plain, text_plain, or_null_plain, chunk_plain, args_plain}
 
 -- the two members that each node has
 pub record HasTexts (d : Data) : Type 0 where
@@ -28,6 +27,9 @@ node_of names count total d t apart is same h =
 
 pub args_hold : (ids : List (List ℕ)) (d : Data) (args : List Arg) → HasArgs ids d args → Hold (codes "args" ∷ []) 1 d
 args_hold ids d args h = and_has (entries_of (arg_of ids)) (codes "args") [] 0 d args (args_plain ids) h (hold_none d)
+
+pub chunk_holds : (d : Data) (chunk : List ℕ) → Has chunk_sizes_of (codes "chunk") d chunk → Hold (codes "chunk" ∷ []) 1 d
+chunk_holds d chunk h = and_has chunk_sizes_of (codes "chunk") [] 0 d chunk chunk_plain h (hold_none d)
 
 -- a node with arguments alone
 pub bare_plain : (ids : List (List ℕ)) (d : Data) (args : List Arg) → HasTexts d → IsObjectOf 3 d → HasArgs ids d args → has_float d ≡ false

@@ -9,15 +9,15 @@ use Rattle.cu_json.specs.Form.{is_object_of}
 use Rattle.cu_name.specs.Name.{is_name}
 use Rattle.cu_num.specs.TypeName.{dtype_named}
 use Rattle.cu_form.specs.declared.args.Arg.{Arg}
-use Rattle.cu_form.specs.Form.{is_written}
-use Rattle.cu_node.specs.NewShape.{are_new_sizes}
+use Rattle.cu_form.specs.Form.{is_written, is_chunk_size}
+use Rattle.cu_node.specs.NewShape.{is_size, are_new_sizes}
 use Rattle.cu_node.specs.declared.index_item.IndexItem.{IndexItem}
 use Rattle.cu_node.specs.declared.literal.Literal.{Literal}
 use Rattle.cu_result.specs.Options.{◌>>=◌, when}
 use Rattle.cu_read.specs.Args.{node_named, written_arg, arg_of}
 use Rattle.cu_read.specs.IndexItem.{index_word, slice_part, slice_of, index_item_of}
 use Rattle.cu_read.specs.Lists.{entries_after, entries_of}
-use Rattle.cu_read.specs.Members.{passing, integer_of, written_of, literal_of, natural_of, dtype_of, name_of, integers_of, new_sizes_of, or_null, present}
+use Rattle.cu_read.specs.Members.{passing, integer_of, written_of, literal_of, natural_of, dtype_of, name_of, integers_of, sizes_of, chunk_sizes_of, new_sizes_of, or_null, present}
 use Rattle.cu_read.proofs.PlainMembers.{IsPlainReader, hold_none, and_may, object_plain}
 use Rattle.cu_read.proofs.TextItems.{stepped}
 
@@ -124,6 +124,12 @@ items_plain read plain (Data.object ms) x h = cc
 
 pub list_plain : {A : Type 0} (entry : Data → Option A) → IsPlainReader entry → IsPlainReader (entries_of entry)
 list_plain entry plain = items_plain (entries_after entry []) (λ ds xs h. entries_plain entry [] ds xs plain h)
+
+pub sizes_plain : IsPlainReader sizes_of
+sizes_plain = list_plain (natural_of is_size) (natural_plain is_size)
+
+pub chunk_plain : IsPlainReader chunk_sizes_of
+chunk_plain = list_plain (natural_of is_chunk_size) (natural_plain is_chunk_size)
 
 pub integers_plain : IsPlainReader integers_of
 integers_plain = list_plain integer_of integer_plain

@@ -23,7 +23,7 @@ use Rattle.cu_read.specs.Node.{row_of, is_new_id, name_for, node_in}
 use Rattle.cu_read.specs.Read.{whole_fault, answer_at, ids_of, nodes_after, listed_in, expression_in, expression_of}
 use Rattle.cu_read.specs.declared.faults.NodeCode.{NodeCode}
 use Rattle.cu_read.specs.declared.faults.ReadFault.{ReadFault}
-use Rattle.cu_read.proofs.RowsRead.{row_read}
+use Rattle.cu_read.proofs.RowLaws.{row_laws}
 use Rattle.cu_read.proofs.Says.{length-ids, ids_of-append}
 
 -- ---- a node
@@ -45,7 +45,7 @@ steps_read id op row name i o form n h k l m = rw (h, k, l, m) refl
 node_read : (ids : List (List ℕ)) (d : Data) (node : Node) → SaysNode ids d node → IsNode (length ids) node → list_any (bytes_eq node.name) ids ≡ false → node_in ids d ≡ Ok node
 node_read ids d node says is new =
     steps_read (member_of as_str (codes "id") d) (member_of as_str (codes "op") d) (λ (op : List ℕ). row_of op ids d) (λ (id : List ℕ) (form : Form). name_for ids id form)
-    node.name says.op node.form node.name says.id says.operator (row_read ids says.op d node.form says.row) (name_read ids node is new)
+    node.name says.op node.form node.name says.id says.operator (row_laws ids says.op d node.form says.row).read (name_read ids node is new)
 
 -- ---- the nodes
 

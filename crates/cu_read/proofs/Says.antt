@@ -27,8 +27,7 @@ use Rattle.cu_read.specs.Size.{item_count, items_count}
 use Rattle.cu_read.specs.declared.faults.NodeCode.{NodeCode}
 use Rattle.cu_read.specs.declared.faults.ReadFault.{ReadFault}
 use Rattle.cu_read.proofs.IndexLength.{list_within, say_short}
-use Rattle.cu_read.proofs.Ranges.{row_in_ranges}
-use Rattle.cu_read.proofs.RowForms.{row_says}
+use Rattle.cu_read.proofs.RowLaws.{row_says, row_laws}
 use Rattle.cu_read.proofs.Steps.{after_need, after_step}
 use Rattle.cu_read.proofs.TextItems.{text_items}
 
@@ -87,7 +86,7 @@ read_node ids d op id form name o i row h = record {
   says = record { op = op; operator = o; id = i ∙ ap Some h.same; row = row };
   node = record {
     name = subst (λ (n : List ℕ). is_name n ≡ true) h.same h.is;
-    form = record { args = h.args; earlier = h.earlier; ranges = row_in_ranges ids op d form row };
+    form = record { args = h.args; earlier = h.earlier; ranges = (row_laws ids op d form row).ranges };
   };
   new = subst (λ (n : List ℕ). list_any (bytes_eq n) ids ≡ false) h.same h.new;
 }

@@ -8,8 +8,7 @@ use Rattle.cu_form.specs.declared.args.Arg.{Arg}
 use Rattle.cu_form.specs.declared.form.Form.{Form}
 use Rattle.cu_result.proofs.ResultSteps.{need_ok}
 use Rattle.cu_result.specs.Results.{◌>>=◌, check, need}
-use Rattle.cu_read.specs.Args.{arg_of, args_in}
-use Rattle.cu_read.specs.Form.{HasArgs}
+use Rattle.cu_read.specs.Args.{arg_of, args_in, HasArgs}
 use Rattle.cu_read.specs.Lists.{entries_after, entries_of}
 use Rattle.cu_read.specs.declared.faults.NodeCode.{NodeCode}
 

@@ -7,8 +7,8 @@ use Rattle.serde_json.specs.Find.{as_str, as_array}
 use Rattle.cu_form.specs.declared.args.Arg.{Arg}
 use Rattle.cu_node.specs.declared.literal.Literal.{Literal}
 use Rattle.cu_result.specs.Results.{◌>>=◌, need}
-use Rattle.cu_read.specs.Lists.{entries_after}
-use Rattle.cu_read.specs.Members.{literal_of}
+use Rattle.cu_read.specs.Lists.{entries_after, entries_of}
+use Rattle.cu_read.specs.Members.{literal_of, Has}
 use Rattle.cu_read.specs.Rows.{required}
 use Rattle.cu_read.specs.declared.faults.NodeCode.{NodeCode}
 
@@ -29,3 +29,7 @@ abbrev pub args_in : List (List ℕ) → Data → Result (List Arg) NodeCode
 args_in ids d = do
   items ← required as_array (codes "args") d
   need (entries_after (arg_of ids) [] items) NodeCode.Args
+
+-- the same as a relation
+abbrev pub HasArgs : List (List ℕ) → Data → List Arg → Type 0
+HasArgs ids d args = Has (entries_of (arg_of ids)) (codes "args") d args

@@ -1,6 +1,6 @@
 -- The rows of elementwise functions (Python array API, "Element-wise Functions"; `where` of "Searching Functions"; `astype`;
 -- `maximum`, `minimum` and `clip` of its version 2023.12).
-use Rattle.std.specs.Prelude.{ℕ, Bool, true, false, List, codes, bytes_eq, Option, Some, None, option_map, Result, Ok, Err, if◌then◌else◌}
+use Rattle.std.specs.Prelude.{ℕ, Bool, true, false, List, codes, bytes_eq, Option, Some, None, option_map, Result, Ok, Err, if◌then◌else◌, ◌≡◌}
 use Rattle.std.specs.Option.{option_or}
 use Rattle.serde_json.specs.Data.{Data}
 use Rattle.cu_num.specs.declared.functions.Fn1.{Fn1}
@@ -10,8 +10,8 @@ use Rattle.cu_num.specs.declared.functions.Fn2.TheVariants.{Add, Subtract, Multi
 use Rattle.cu_node.specs.declared.element_op.ElementOp.{ElementOp}
 use Rattle.cu_form.specs.declared.form.Form.{Form}
 use Rattle.cu_result.specs.Results.{◌>>=◌}
-use Rattle.cu_read.specs.Args.{args_in}
-use Rattle.cu_read.specs.Members.{dtype_of, written_of}
+use Rattle.cu_read.specs.Args.{args_in, HasArgs}
+use Rattle.cu_read.specs.Members.{dtype_of, written_of, IsObjectOf, Has}
 use Rattle.cu_read.specs.Rows.{has_members, required}
 use Rattle.cu_read.specs.declared.faults.NodeCode.{NodeCode}
 
@@ -74,6 +74,17 @@ function_named op =
     else
     option_or (option_map ElementOp.One (unary_named op))
     (option_or (option_map ElementOp.Two (binary_named op)) (option_map ElementOp.Extreme (extreme_named op)))
+
+-- an elementwise function; `astype` and `clip` have members of their own
+abbrev pub IsFunction : List ℕ → Data → ElementOp → Type 0
+IsFunction op d (ElementOp.Astype dtype) = (op ≡ codes "astype") × IsObjectOf 4 d × Has dtype_of (codes "dtype") d dtype
+IsFunction op d (ElementOp.Clip min max) = (op ≡ codes "clip") × IsObjectOf 5 d × Has written_of (codes "min") d min × Has written_of (codes "max") d max
+IsFunction op d function = (function_named op ≡ Some function) × IsObjectOf 3 d
+
+-- A node with this operator says this form: it has exactly the members of the operator's row, and these are the form's.
+abbrev pub SaysElementwise : List (List ℕ) → List ℕ → Data → Form → Type 0
+SaysElementwise ids op d (Form.Elementwise function args) = IsFunction op d function × HasArgs ids d args
+SaysElementwise ids op d form = ⊥
 
 abbrev pub function_in : ElementOp → List (List ℕ) → Data → Result Form NodeCode
 function_in op ids d = do

@@ -5,7 +5,7 @@ use Rattle.serde_json.specs.Data.{Data}
 use Rattle.cu_node.specs.declared.new_shape.NewShape.{NewShape}
 use Rattle.cu_form.specs.declared.form.Form.{Form}
 use Rattle.cu_result.specs.Results.{◌>>=◌}
-use Rattle.cu_read.specs.Args.{args_in}
+use Rattle.cu_read.specs.Args.{args_in, HasArgs}
 use Rattle.cu_read.specs.Members.{integer_of, integers_of, new_sizes_of, IsObjectOf, Has}
 use Rattle.cu_read.specs.Rows.{has_members, required}
 use Rattle.cu_read.specs.declared.faults.NodeCode.{NodeCode}
@@ -15,6 +15,11 @@ abbrev pub IsNewShape : List ℕ → Data → NewShape → Type 0
 IsNewShape op d (NewShape.Sizes sizes) = (op ≡ codes "reshape") × IsObjectOf 4 d × Has new_sizes_of (codes "shape") d sizes
 IsNewShape op d (NewShape.Expanded axis) = (op ≡ codes "expand_dims") × IsObjectOf 4 d × Has integer_of (codes "axis") d axis
 IsNewShape op d (NewShape.Squeezed axes) = (op ≡ codes "squeeze") × IsObjectOf 4 d × Has integers_of (codes "axes") d axes
+
+-- the same of the form with this shape
+abbrev pub SaysReshape : List (List ℕ) → List ℕ → Data → Form → Type 0
+SaysReshape ids op d (Form.Reshape args shape) = IsNewShape op d shape × HasArgs ids d args
+SaysReshape ids op d form = ⊥
 
 abbrev pub reshape_in : Data → Result NewShape NodeCode
 reshape_in d = do

@@ -1,6 +1,6 @@
 -- The rows of reductions, of places, of products, of prefix sums (Python array API, "Statistical Functions", "Utility Functions",
 -- "Searching Functions", "Linear Algebra Functions") and of groups by labels (this project's own operators).
-use Rattle.std.specs.Prelude.{ℕ, ◌+◌, Bool, true, false, List, codes, bytes_eq, Option, Some, None, Result, Ok, Err, if◌then◌else◌}
+use Rattle.std.specs.Prelude.{ℕ, ◌+◌, Bool, true, false, List, codes, bytes_eq, Option, Some, None, Result, Ok, Err, if◌then◌else◌, ◌≡◌}
 use Rattle.serde_json.specs.Data.{Data}
 use Rattle.serde_json.specs.Find.{as_bool}
 use Rattle.cu_num.specs.declared.folds.FoldKind.{FoldKind}
@@ -8,8 +8,8 @@ use Rattle.cu_num.specs.declared.folds.FoldKind.TheVariants.{Sum, Prod, Min, Max
 use Rattle.cu_form.specs.Form.{is_group_count}
 use Rattle.cu_form.specs.declared.form.Form.{Form}
 use Rattle.cu_result.specs.Results.{◌>>=◌}
-use Rattle.cu_read.specs.Args.{args_in}
-use Rattle.cu_read.specs.Members.{integer_of, integers_of, natural_of, or_null, present}
+use Rattle.cu_read.specs.Args.{args_in, HasArgs}
+use Rattle.cu_read.specs.Members.{integer_of, integers_of, natural_of, or_null, present, IsObjectOf, Has, MayHave}
 use Rattle.cu_read.specs.Rows.{has_members, required, optional}
 use Rattle.cu_read.specs.declared.faults.NodeCode.{NodeCode}
 
@@ -22,6 +22,27 @@ fold_named op =
     else if bytes_eq op (codes "any") then Some Any
     else if bytes_eq op (codes "all") then Some All
     else None
+
+abbrev pub place_name : Bool → List ℕ
+place_name least = if least then codes "argmin" else codes "argmax"
+
+abbrev pub group_name : Bool → List ℕ
+group_name least = if least then codes "groupby_min" else codes "groupby_sum"
+
+-- A node with this operator says this form: it has exactly the members of the operator's row, and these are the form's.
+abbrev pub SaysReduction : List (List ℕ) → List ℕ → Data → Form → Type 0
+SaysReduction ids op d (Form.Reduce kind args axes keepdims) = (fold_named op ≡ Some kind) × IsObjectOf (3 + present (codes "axes") d + present (codes "keepdims") d) d
+    × MayHave None (or_null integers_of) (codes "axes") d axes × MayHave false as_bool (codes "keepdims") d keepdims × HasArgs ids d args
+SaysReduction ids op d (Form.ArgPlace least args axis keepdims) = (op ≡ place_name least) × IsObjectOf (3 + present (codes "axis") d + present (codes "keepdims") d) d
+    × MayHave None (or_null integer_of) (codes "axis") d axis × MayHave false as_bool (codes "keepdims") d keepdims × HasArgs ids d args
+SaysReduction ids op d (Form.Matmul args) = (op ≡ codes "matmul") × IsObjectOf 3 d × HasArgs ids d args
+SaysReduction ids op d (Form.CumulativeSum args axis) =
+    (op ≡ codes "cumulative_sum") × IsObjectOf (3 + present (codes "axis") d) d
+    × MayHave None (or_null integer_of) (codes "axis") d axis × HasArgs ids d args
+SaysReduction ids op d (Form.GroupBy least args axis groups) =
+    (op ≡ group_name least) × IsObjectOf 5 d × Has integer_of (codes "axis") d axis
+    × Has (natural_of is_group_count) (codes "groups") d groups × HasArgs ids d args
+SaysReduction ids op d form = ⊥
 
 abbrev pub reduce_in : FoldKind → List (List ℕ) → Data → Result Form NodeCode
 reduce_in kind ids d = do

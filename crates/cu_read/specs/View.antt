@@ -1,15 +1,34 @@
 -- The rows of operators that move elements (Python array API, "Manipulation Functions", "Indexing"; `tril` and `triu` of
 -- "Creation Functions"; `rechunk` is this project's own).
-use Rattle.std.specs.Prelude.{ℕ, ◌+◌, Bool, true, false, List, codes, bytes_eq, None, Result, Ok, Err, if◌then◌else◌}
+use Rattle.std.specs.Prelude.{ℕ, ◌+◌, Bool, true, false, List, codes, bytes_eq, None, Result, Ok, Err, if◌then◌else◌, ◌≡◌}
 use Rattle.serde_json.specs.Data.{Data}
 use Rattle.cu_form.specs.declared.form.Form.{Form}
 use Rattle.cu_result.specs.Results.{◌>>=◌}
-use Rattle.cu_read.specs.Args.{args_in}
+use Rattle.cu_read.specs.Args.{args_in, HasArgs}
 use Rattle.cu_read.specs.Lists.{entries_of}
 use Rattle.cu_read.specs.IndexItem.{index_item_of}
-use Rattle.cu_read.specs.Members.{integer_of, integers_of, sizes_of, chunk_sizes_of, or_null, present}
+use Rattle.cu_read.specs.Members.{integer_of, integers_of, sizes_of, chunk_sizes_of, or_null, present, IsObjectOf, Has, MayHave}
 use Rattle.cu_read.specs.Rows.{has_members, required, optional}
 use Rattle.cu_read.specs.declared.faults.NodeCode.{NodeCode}
+
+abbrev pub triangle_name : Bool → List ℕ
+triangle_name lower = if lower then codes "tril" else codes "triu"
+
+-- A node with this operator says this form: it has exactly the members of the operator's row, and these are the form's.
+abbrev pub SaysView : List (List ℕ) → List ℕ → Data → Form → Type 0
+SaysView ids op d (Form.Triangle lower args k) = (op ≡ triangle_name lower) × IsObjectOf 4 d × Has integer_of (codes "k") d k × HasArgs ids d args
+SaysView ids op d (Form.Index args items) = (op ≡ codes "index") × IsObjectOf 4 d × Has (entries_of index_item_of) (codes "index") d items × HasArgs ids d args
+SaysView ids op d (Form.Concat args axis) = (op ≡ codes "concat") × IsObjectOf 4 d × Has integer_of (codes "axis") d axis × HasArgs ids d args
+SaysView ids op d (Form.Stack args axis) = (op ≡ codes "stack") × IsObjectOf 4 d × Has integer_of (codes "axis") d axis × HasArgs ids d args
+SaysView ids op d (Form.PermuteDims args axes) = (op ≡ codes "permute_dims") × IsObjectOf 4 d × Has integers_of (codes "axes") d axes × HasArgs ids d args
+SaysView ids op d (Form.Flip args axes) = (op ≡ codes "flip") × IsObjectOf (3 + present (codes "axes") d) d
+    × MayHave None (or_null integers_of) (codes "axes") d axes × HasArgs ids d args
+SaysView ids op d (Form.Roll args shifts axes) = (op ≡ codes "roll") × IsObjectOf 5 d × Has integers_of (codes "shifts") d shifts
+    × Has integers_of (codes "axes") d axes × HasArgs ids d args
+SaysView ids op d (Form.BroadcastTo args shape chunk) = (op ≡ codes "broadcast_to") × IsObjectOf 5 d × Has sizes_of (codes "shape") d shape
+    × Has chunk_sizes_of (codes "chunk") d chunk × HasArgs ids d args
+SaysView ids op d (Form.Rechunk args chunk) = (op ≡ codes "rechunk") × IsObjectOf 4 d × Has chunk_sizes_of (codes "chunk") d chunk × HasArgs ids d args
+SaysView ids op d form = ⊥
 
 abbrev pub triangle_in : Bool → List (List ℕ) → Data → Result Form NodeCode
 triangle_in lower ids d = do

@@ -1,16 +1,20 @@
--- The meaning of a node is its rule over the meaning itself.
-use Rattle.std.proofs.Common.{◌≡◌, ◌<◌, ◌≤◌, ◌+◌, ◌==◌, zero, suc, Bool, true, false, List, [], ◌∷◌, ℕ, ℤ, pos, length, Some, refl, sym, ap, ◌∙◌, subst, arith}
+-- The meaning of a node is its rule over the meaning itself, and a number of the node's type.
+use Rattle.std.proofs.Common.{◌≡◌, ◌<◌, ◌≤◌, ◌+◌, ◌==◌, zero, suc, Bool, true, false, List, [], ◌∷◌, ℕ, ℤ, pos, length, Option, Some, None, refl, sym, ap, ◌∙◌, subst, arith}
 use Rattle.std.specs.Prelude.{slice_get, if◌then◌else◌}
 use Rattle.std.proofs.lemmas.Bool.{eq-eqb}
+use Rattle.cu_num.specs.Dtype.{InRange}
 use Rattle.cu_shape.specs.Index.{is_inside}
 use Rattle.cu_form.specs.Expression.{Expression, IsExpression}
 use Rattle.cu_form.specs.Form.{names_earlier}
 use Rattle.cu_form.specs.declared.expr.Node.{Node}
 use Rattle.cu_node.specs.declared.info.NodeInfo.{NodeInfo}
+use Rattle.cu_reduce.proofs.Folding.{zero_in_range}
 use Rattle.cu_semantics.specs.Argument.{NodeElements, shape_of_node}
 use Rattle.cu_semantics.specs.Meaning.{with_node, meaning_after, no_elements, meaning_of}
-use Rattle.cu_semantics.specs.Rule.{rule_of, node_element}
-use Rattle.cu_semantics.proofs.Earlier.{node_agrees}
+use Rattle.cu_semantics.specs.Rule.{rule_of, KeepsType, node_element}
+use Rattle.cu_semantics.specs.Typed.{type_of_node}
+use Rattle.cu_semantics.proofs.InType.{FitBelow}
+use Rattle.cu_semantics.proofs.RuleLaws.{node_agrees, node_fits_by}
 
 with_itself : (k : ℕ) (element : List ℕ → ℤ) (at : NodeElements) (idx : List ℕ) → with_node k element at k idx ≡ element idx
 with_itself k element at idx = rw (eq-eqb k k refl) refl
@@ -61,3 +65,29 @@ pub outside : (e : Expression) (infos : List NodeInfo) (env : NodeElements) (k :
     → is_inside (shape_of_node infos k) idx ≡ false → meaning_of e infos env k idx ≡ pos 0
 outside e infos env k node idx is h not_inside =
     equation e infos env k node idx is h ∙ ap (λ (b : Bool). if b then rule_of infos env (meaning_of e infos env) k node.form idx else pos 0) not_inside
+
+-- ---- its numbers
+
+abbrev KeepTypes : Expression → List NodeInfo → NodeElements → Type 0
+KeepTypes e infos env = (k : ℕ) (node : Node) → slice_get e.nodes k ≡ Some node → KeepsType infos env k node.form
+
+none_past : (nodes : List Node) (k : ℕ) → slice_get nodes k ≡ None → length nodes ≤ k
+none_past [] k h = omega arith
+none_past (node ∷ nodes) zero h = cc
+none_past (node ∷ nodes) (suc k) h = omega (arith, none_past nodes k h)
+
+number_fits : (e : Expression) (infos : List NodeInfo) (env : NodeElements) (k : ℕ) (idx : List ℕ) (found : Option Node) → slice_get e.nodes k ≡ found → IsExpression e → KeepTypes e infos env
+    → FitBelow infos (meaning_of e infos env) k → InRange (type_of_node infos k) (meaning_of e infos env k idx)
+number_fits e infos env k idx (Some node) h is keeps below =
+    subst (InRange (type_of_node infos k)) (sym (equation e infos env k node idx is h))
+    (node_fits_by infos env (meaning_of e infos env) k node.form idx (is_inside (shape_of_node infos k) idx) refl below (is.nodes k node h).form.earlier (keeps k node h))
+number_fits e infos env k idx None h is keeps below =
+    subst (InRange (type_of_node infos k)) (sym (past infos env e.nodes 0 no_elements k idx (omega (arith, none_past e.nodes k h)))) (zero_in_range (type_of_node infos k))
+
+below_all : (e : Expression) (infos : List NodeInfo) (env : NodeElements) (m : ℕ) → IsExpression e → KeepTypes e infos env → FitBelow infos (meaning_of e infos env) m
+below_all e infos env zero is keeps = λ n idx lt. absurd (omega arith)
+below_all e infos env (suc m) is keeps = λ n idx lt.
+    number_fits e infos env n idx (slice_get e.nodes n) refl is keeps (λ j i less. below_all e infos env m is keeps j i (omega arith))
+
+pub meaning_fits : (e : Expression) (infos : List NodeInfo) (env : NodeElements) (k : ℕ) (idx : List ℕ) → IsExpression e → KeepTypes e infos env → InRange (type_of_node infos k) (meaning_of e infos env k idx)
+meaning_fits e infos env k idx is keeps = below_all e infos env (suc k) is keeps k idx (omega arith)

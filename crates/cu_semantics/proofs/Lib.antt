@@ -2,3 +2,4 @@ mod Examples
 pub mod Earlier
 pub mod Equation
 pub mod InType
+pub mod RuleLaws

@@ -1,14 +1,15 @@
--- The element of a node by its operator, over the elements of its arguments (Python array API). Nothing here speaks of chunks.
-use Rattle.std.specs.Prelude.{ℕ, ℤ, pos, List, [], ◌∷◌, length, map, Option, option_map, if◌then◌else◌, slice_index}
+-- The element of a node by its operator, over the elements of its arguments (Python array API), and the types that it needs for
+-- the element to be a number of the node's type. Nothing here speaks of chunks.
+use Rattle.std.specs.Prelude.{ℕ, ℤ, pos, List, [], ◌∷◌, length, map, Option, option_map, if◌then◌else◌, slice_index, ◌≡◌, ◌≤◌, ◌^◌, true, All}
 use Rattle.std.specs.Int.{int_min, int_max}
 use Rattle.cu_num.specs.Scalar.{op1, op2, is_nonzero}
 use Rattle.cu_num.specs.Wrap.{wrapped}
 use Rattle.cu_num.specs.declared.functions.Fn1.TheVariants.{Astype}
 use Rattle.cu_num.specs.declared.types.Dtype.{Dtype}
-use Rattle.cu_shape.specs.Index.{back, is_inside}
+use Rattle.cu_shape.specs.Index.{back, is_inside, product}
 use Rattle.cu_origin.specs.Pull.{is_in_triangle}
 use Rattle.cu_node.specs.declared.element_op.ElementOp.{ElementOp}
-use Rattle.cu_form.specs.Form.{group_kind}
+use Rattle.cu_form.specs.Form.{group_kind, args_of}
 use Rattle.cu_form.specs.declared.form.Form.{Form}
 use Rattle.cu_node.specs.Info.{info_at}
 use Rattle.cu_node.specs.Literal.{literal_number}
@@ -17,11 +18,14 @@ use Rattle.cu_semantics.specs.Along.{line_axis, along, sum_up_to, places_on}
 use Rattle.cu_semantics.specs.Argument.{NodeElements, shape_of_node, argument_at, source_at, source_shape}
 use Rattle.cu_semantics.specs.Index.{axis_in}
 use Rattle.cu_semantics.specs.Matmul.{matmul_at}
-use Rattle.cu_semantics.specs.Reduction.{reduced_elements}
+use Rattle.cu_semantics.specs.Reduction.{reduced_elements, reduced_box}
 use Rattle.cu_reduce.specs.Folds.{fold_of}
 use Rattle.cu_reduce.specs.Labels.{grouped_at}
 use Rattle.cu_reduce.specs.Places.{best_place}
 use Rattle.cu_semantics.specs.View.{arange_at, eye_at, indexed, permuted_index, same_place, flipped_index, rolled_index, concat_at, stack_at}
+use Rattle.cu_num.specs.Dtype.{InRange}
+use Rattle.cu_num.specs.declared.types.Dtype.TheVariants.{Int64}
+use Rattle.cu_semantics.specs.Typed.{type_of_node, FitsType, IsResultType}
 
 -- An elementwise function of its arguments' elements. `t` is the type of the result: comparisons and logical functions do not
 -- depend on the type.
@@ -68,6 +72,20 @@ rule_of infos env at k (Form.GroupBy least args axis groups) idx =
     (grouped_at (group_kind least) (info_at infos k).dtype (λ p. source_at at args 1 (p ∷ []))
     (along (source_at at args 0) (axis_in (length idx) axis) idx) (slice_index idx (axis_in (length idx) axis))
     (places_on (source_shape infos args 0) (axis_in (length idx) axis)))
+
+-- What the types of the nodes have to be so that the rule of node k gives numbers of the node's type. Typing gives it.
+abbrev pub KeepsType : List NodeInfo → NodeElements → ℕ → Form → Type 0
+KeepsType infos env k (Form.Input name) = (idx : List ℕ) → InRange (type_of_node infos k) (env k idx)
+KeepsType infos env k (Form.Elementwise op args) = IsResultType infos (type_of_node infos k) op args
+KeepsType infos env k (Form.Full shape dtype value chunk) = InRange (type_of_node infos k) (literal_number value)
+KeepsType infos env k (Form.Arange start stop step dtype chunk) = (idx : List ℕ) → is_inside (shape_of_node infos k) idx ≡ true → InRange (type_of_node infos k) (arange_at start step idx)
+KeepsType infos env k (Form.Eye rows cols d dtype chunk) = Unit {0}
+KeepsType infos env k (Form.Reduce kind args axes keepdims) = Unit {0}
+KeepsType infos env k (Form.ArgPlace least args axis keepdims) = (type_of_node infos k ≡ Int64) × (product (reduced_box (place_axes axis) (source_shape infos args 0)) ≤ 2 ^ 40)
+KeepsType infos env k (Form.Matmul args) = Unit {0}
+KeepsType infos env k (Form.CumulativeSum args axis) = Unit {0}
+KeepsType infos env k (Form.GroupBy least args axis groups) = Unit {0}
+KeepsType infos env k form = All (FitsType infos (type_of_node infos k)) (args_of form)
 
 -- outside the node's shape the element is 0
 abbrev pub node_element : List NodeInfo → NodeElements → NodeElements → ℕ → Form → List ℕ → ℤ

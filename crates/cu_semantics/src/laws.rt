@@ -8,8 +8,8 @@ ghost use Rattle.cu_form.specs.declared.form.Form.{Form};
 ghost use Rattle.cu_node.specs.declared.info.NodeInfo.{NodeInfo};
 ghost use Rattle.cu_semantics.specs.Argument.{NodeElements, shape_of_node};
 ghost use Rattle.cu_semantics.specs.Meaning.{meaning_of, AgreeBelow};
-ghost use Rattle.cu_semantics.specs.Rule.{node_element};
-ghost use Rattle.cu_semantics.specs.Typed.{type_of_node, KeepsType};
+ghost use Rattle.cu_semantics.specs.Rule.{node_element, KeepsType};
+ghost use Rattle.cu_semantics.specs.Typed.{type_of_node};
 ghost use Rattle.cu_num.specs.Dtype.{InRange};
 
 /// The meaning of each node is the rule of its operator over the meaning itself. The rule depends on the elements of earlier nodes

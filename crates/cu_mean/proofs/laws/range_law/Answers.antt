@@ -1,4 +1,4 @@
-use Rattle.cu_semantics.proofs.InType.{meaning_fits}
+use Rattle.cu_semantics.proofs.Equation.{meaning_fits}
 use Rattle.cu_mean.proofs.Kept.{node_keeps}
 use Rattle.cu_mean.proofs.laws.range_law.Goals as goal
 

@@ -1,5 +1,5 @@
-use Rattle.cu_semantics.proofs.Earlier.{node_agrees}
 use Rattle.cu_semantics.proofs.Equation.{equation, outside}
+use Rattle.cu_semantics.proofs.RuleLaws.{node_agrees}
 use Rattle.cu_semantics.proofs.laws.meaning_law.Goals as goal
 
 pub returns : goal.returns

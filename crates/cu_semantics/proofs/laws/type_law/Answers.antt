@@ -1,4 +1,4 @@
-use Rattle.cu_semantics.proofs.InType.{meaning_fits}
+use Rattle.cu_semantics.proofs.Equation.{meaning_fits}
 use Rattle.cu_semantics.proofs.laws.type_law.Goals as goal
 
 pub returns : goal.returns
