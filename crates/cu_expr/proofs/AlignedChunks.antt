@@ -1,6 +1,6 @@
 -- An aligned chunk is aligned.
-use Rattle.std.proofs.Common.{◌≡◌, ◌≢◌, ℕ, suc, ◌+◌, ◌-◌, ◌<◌, ◌⊎◌, true, false, List, [], ◌∷◌, length, get_or, drop, refl, ap, sym, ◌∙◌, inl, inr, arith}
-use Rattle.std.proofs.lemmas.Bool.{cases_eq, le-leb, eq-eqb, ne_eqb}
+use Rattle.std.proofs.Common.{◌≡◌, ◌≢◌, ℕ, suc, ◌+◌, ◌-◌, ◌<◌, ◌⊎◌, true, List, [], ◌∷◌, length, get_or, drop, refl, ap, sym, ◌∙◌, inl, inr, arith}
+use Rattle.std.proofs.lemmas.Bool.{cases_eq, le-leb, eq-eqb}
 use Rattle.std.proofs.lemmas.List.{get_or-drop, length-drop}
 use Rattle.std.proofs.lemmas.List.FromFn.{get_or-map-range_with_len}
 use Rattle.cu_node.specs.declared.info.NodeInfo.{NodeInfo}
@@ -30,11 +30,6 @@ fills_own : (shape : List ℕ) (i : NodeInfo) (k : ℕ) → get_or i.dims k 0 �
 fills_own shape i k e =
     let back : k + lead_of shape i - lead_of shape i ≡ k = omega arith in
     rw (le-leb (lead_of shape i) (k + lead_of shape i) (omega arith)) (rw back (eq-eqb _ _ e))
-
-fills_not : (shape : List ℕ) (i : NodeInfo) (k : ℕ) → (get_or i.dims k 0 ≡ get_or shape (k + lead_of shape i) 0 → ⊥) → fills shape i (k + lead_of shape i) ≡ false
-fills_not shape i k e =
-    let back : k + lead_of shape i - lead_of shape i ≡ k = omega arith in
-    rw (le-leb (lead_of shape i) (k + lead_of shape i) (omega arith)) (rw back (ne_eqb _ _ e))
 
 axis_aligned : (shape chunk : List ℕ) (i : NodeInfo) (k : ℕ) → (get_or i.dims k 0 ≡ get_or shape (k + lead_of shape i) 0) ⊎ (get_or i.dims k 0 ≡ 1) → IsAxis (get_or i.dims k 0) (aligned_on shape chunk i k) (get_or shape (k + lead_of shape i) 0) (get_or chunk (k + lead_of shape i) 0)
 axis_aligned shape chunk i k goes =

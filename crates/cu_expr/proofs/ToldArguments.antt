@@ -1,10 +1,10 @@
 -- What is told of the arguments of a node.
-use Rattle.std.proofs.Common.{◌≡◌, ℕ, suc, ◌<◌, ◌≤◌, true, List, [], ◌∷◌, length, map, All, refl, ap, arith, inl, inr}
+use Rattle.std.proofs.Common.{◌≡◌, ℕ, suc, ◌<◌, ◌≤◌, true, List, [], ◌∷◌, length, map, All, refl, ap, sym, ◌∙◌, arith, inl, inr}
 use Rattle.std.specs.List.{list_all}
 use Rattle.std.proofs.lemmas.Bool.{and_parts, leb-true, cases_lt}
 use Rattle.std.proofs.lemmas.List.{get_or_past}
 use Rattle.std.proofs.lemmas.List.Elements.{All-nil, All-cons, All-get_or}
-use Rattle.cu_form.specs.Form.{is_array, are_arrays, takes_args}
+use Rattle.cu_form.specs.Form.{args_of, is_array, are_arrays, takes_args}
 use Rattle.cu_form.specs.declared.args.Arg.{Arg}
 use Rattle.cu_form.specs.declared.form.Form.{Form}
 use Rattle.cu_node.specs.Info.{IsInfo, info_at, no_info}
@@ -44,17 +44,18 @@ all_told infos (Arg.Node n ∷ args) h = ap suc (all_told infos args h)
 all_told infos (Arg.Int x ∷ args) h = cc
 all_told infos (Arg.Truth b ∷ args) h = cc
 
-counted : (infos : List NodeInfo) (args : List Arg) → are_arrays 1 8 args ≡ true → (0 < length (arrays_of (map (argument_of infos) args))) × (length (arrays_of (map (argument_of infos) args)) ≤ 8)
-counted infos args h =
+-- of a form that takes so many arrays to so many, as many are told
+pub told_count : (infos : List NodeInfo) (form : Form) → HasArrays form (length (arrays_of (told_of infos form)))
+told_count infos form least most h =
     let both = and_parts _ _ h in
     let ends = and_parts _ _ both.0 in
-    let e : length (arrays_of (map (argument_of infos) args)) ≡ length args = all_told infos args both.1 in
-    let least : 1 ≤ length args = leb-true 1 (length args) ends.0 in
-    let most : length args ≤ 8 = leb-true (length args) 8 ends.1 in
+    let e : length (arrays_of (told_of infos form)) ≡ length (args_of form) = all_told infos (args_of form) both.1 in
+    let fewest : least ≤ length (args_of form) = leb-true least (length (args_of form)) ends.0 in
+    let longest : length (args_of form) ≤ most = leb-true (length (args_of form)) most ends.1 in
     (omega arith, omega arith)
 
--- `concat` and `stack` are told one to eight arrays
-pub told_count : (infos : List NodeInfo) (form : Form) → takes_args form ≡ true → HasArrays form (length (arrays_of (told_of infos form)))
-told_count infos (Form.Concat args axis) h = counted infos args h
-told_count infos (Form.Stack args axis) h = counted infos args h
-told_count infos form h = tt
+-- by another name of a form that takes one to eight arrays
+pub one_to_eight : (form other : Form) (n : ℕ) → form ≡ other → takes_args form ≡ true → HasArrays form n → takes_args other ≡ are_arrays 1 8 (args_of other) → (0 < n) × (n ≤ 8)
+one_to_eight form other n is takes has own =
+    let told = has 1 8 (ap (λ (f : Form). are_arrays 1 8 (args_of f)) is ∙ sym own ∙ sym (ap takes_args is) ∙ takes) in
+    (omega (arith, told.0), told.1)

@@ -20,7 +20,7 @@ use Rattle.cu_typing.specs.Reduction.{typed_reduction, typed_arg_place}
 use Rattle.cu_typing.specs.declared.argument.Argument.{Argument}
 use Rattle.cu_typing.specs.declared.argument.Argument.TheVariants.{Array, Written}
 use Rattle.cu_expr.specs.Inputs.{named_input, stored_of}
-use Rattle.cu_expr.specs.Views.{typed_made, typed_view, typed_pieces}
+use Rattle.cu_expr.specs.Views.{typed_any_view}
 use Rattle.cu_expr.specs.declared.inputs.InputInfo.{InputInfo}
 use Rattle.cu_expr.specs.declared.types.TypeFault.{TypeFault}
 
@@ -47,18 +47,13 @@ typed_reduced form is = Err (fault Kind)
 abbrev pub typed_form : NodeInfo → Form → List Argument → Result NodeInfo NodeFault
 typed_form stored (Form.Input name) told = Ok stored
 typed_form stored (Form.Elementwise op args) told = typed_elementwise op told
-typed_form stored (Form.Full shape t value chunk) told = typed_made (Form.Full shape t value chunk)
-typed_form stored (Form.Arange start stop step t chunk) told = typed_made (Form.Arange start stop step t chunk)
-typed_form stored (Form.Eye rows cols k t chunk) told = typed_made (Form.Eye rows cols k t chunk)
-typed_form stored (Form.Concat args axis) told = typed_pieces (Form.Concat args axis) (arrays_of told)
-typed_form stored (Form.Stack args axis) told = typed_pieces (Form.Stack args axis) (arrays_of told)
 typed_form stored (Form.Reduce kind args axes keepdims) told = typed_reduced (Form.Reduce kind args axes keepdims) (arrays_of told)
 typed_form stored (Form.ArgPlace least args axis keepdims) told = typed_reduced (Form.ArgPlace least args axis keepdims) (arrays_of told)
 typed_form stored (Form.Matmul args) told = typed_reduced (Form.Matmul args) (arrays_of told)
 typed_form stored (Form.CumulativeSum args axis) told = typed_cumulative axis (info_at (arrays_of told) 0)
 typed_form stored (Form.GroupBy least args axis groups) told =
     typed_groups (group_kind least) axis groups (info_at (arrays_of told) 0) (info_at (arrays_of told) 1)
-typed_form stored form told = typed_view form (info_at (arrays_of told) 0)
+typed_form stored form told = typed_any_view form (arrays_of told)
 
 -- ---- the nodes of an expression
 

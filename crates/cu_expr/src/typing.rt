@@ -1,6 +1,6 @@
 ghost use Rattle.std.specs.Prelude.{◌≡◌, ◌<◌, ◌^◌, true, All, IfOk, OnOk, ◌++◌, ◌∷◌, [], length};
 ghost use Rattle.std.specs.HashMap.{get_by_text};
-ghost use Rattle.cu_form.specs.Form.{in_ranges, HasShortIndex, IsForm};
+ghost use Rattle.cu_form.specs.Form.{in_ranges, takes_args, HasShortIndex, IsForm};
 ghost use Rattle.cu_node.specs.Info.{IsInfo};
 ghost use Rattle.cu_typing.specs.Joined.{arrays_of};
 ghost use Rattle.cu_expr.specs.Answer.{IsAnswer};
@@ -11,7 +11,7 @@ ghost use Rattle.cu_expr.specs.Typing.{told_of, typed_reduced, typed_form, at_no
 use crate::inputs::{InputInfo, by_name, stored_info};
 use crate::told::{arguments, arrays, known};
 use crate::types::{TypeFault, TypeRefused, Types};
-use crate::views::{type_made, type_pieces, type_view};
+use crate::views::type_any_view;
 use cu_form::{Expr, Form, group_kind};
 use cu_node::{FaultCode, NodeFault, NodeInfo, fault};
 use cu_typing::{
@@ -54,6 +54,7 @@ fn type_form(
     told: &[Argument],
     arrays: &[NodeInfo],
 ) -> Result<NodeInfo, NodeFault>
+    requires takes { takes_args form.now ≡ true }
     requires ranges { in_ranges form.now ≡ true }
     requires short { HasShortIndex form.now }
     requires told { arrays.now ≡ arrays_of told.now }
@@ -66,8 +67,6 @@ fn type_form(
     match form {
         Form::Input { .. } => Ok(stored),
         Form::Elementwise { op, .. } => type_elementwise(*op, told),
-        Form::Full { .. } | Form::Arange { .. } | Form::Eye { .. } => type_made(form),
-        Form::Concat { .. } | Form::Stack { .. } => type_pieces(form, arrays),
         Form::Reduce { .. } | Form::ArgPlace { .. } | Form::Matmul { .. } => type_reduced(
             form, arrays,
         ),
@@ -84,14 +83,7 @@ fn type_form(
             &known(arrays, 0),
             &known(arrays, 1),
         ),
-        Form::Triangle { .. }
-        | Form::Index { .. }
-        | Form::PermuteDims { .. }
-        | Form::Reshape { .. }
-        | Form::Flip { .. }
-        | Form::Roll { .. }
-        | Form::BroadcastTo { .. }
-        | Form::Rechunk { .. } => type_view(form, &known(arrays, 0)),
+        view => type_any_view(view, arrays),
     }
 }
 

@@ -1,5 +1,5 @@
 -- The pull of a typed view.
-use Rattle.std.proofs.Common.{◌≡◌, ◌∙◌, ℕ, ◌+◌, ◌≤◌, ◌==◌, ◌&&◌, ℤ, pos, Bool, true, false, List, [], length, Option, Some, None, Result, Ok, refl, ap, sym, arith, if◌then◌else◌}
+use Rattle.std.proofs.Common.{◌≡◌, ◌∙◌, ℕ, ◌+◌, ◌≤◌, ◌==◌, ◌&&◌, pos, true, false, List, [], length, Option, Some, None, Result, Ok, refl, ap, sym, arith, if◌then◌else◌}
 use Rattle.std.specs.Prelude.{nat_le, map}
 use Rattle.std.specs.Ordering.{int_eq}
 use Rattle.std.proofs.lemmas.Bool.{and_parts, le-leb, leb-true}
@@ -12,7 +12,6 @@ use Rattle.cu_node.specs.Limited.{limited}
 use Rattle.cu_node.specs.Literal.{literal_number}
 use Rattle.cu_node.specs.declared.faults.FaultCode.TheVariants.{Axis, Shape}
 use Rattle.cu_node.specs.declared.faults.NodeFault.{NodeFault}
-use Rattle.cu_node.specs.declared.index_item.IndexItem.{IndexItem}
 use Rattle.cu_node.specs.declared.info.NodeInfo.{NodeInfo}
 use Rattle.cu_node.specs.declared.new_shape.NewShape.{NewShape}
 use Rattle.cu_form.specs.declared.args.Arg.{Arg}
@@ -47,10 +46,17 @@ source infos args = info_at (sources_of infos args) 0
 abbrev HasPull : List NodeInfo → Form → NodeInfo → Type 0
 HasPull infos form i = (p : Pull) × IsPull infos form i p
 
--- ---- arrays that are made from no other
+right_given : (o : Option ℕ) (r : Result NodeInfo NodeFault) (i : NodeInfo) → unless_wrong o r ≡ Ok i → (o ≡ None) × (r ≡ Ok i)
+right_given None r i h = (refl, h)
+right_given (Some k) r i h = cc
 
-full : (infos : List NodeInfo) (shape : _) (t : _) (value : _) (chunk : _) (i : NodeInfo) → IsTypedView infos (Form.Full shape t value chunk) i → HasPull infos (Form.Full shape t value chunk) i
-full infos shape t value chunk i h = (
+few_some : (n : ℕ) (p : Pull) → n ≤ 6 → (if nat_le n 6 then Some p else None) ≡ Some p
+few_some n p h = rw (le-leb n 6 h) refl
+
+-- each typed view by its form; the last row is of the forms that are no views
+pub view_pull : (infos : List NodeInfo) (form : Form) (i : NodeInfo) → IsTypedView infos form i → HasPull infos form i
+-- arrays that are made from no other
+view_pull infos (Form.Full shape t value chunk) i h = (
   pull.Full (literal_number value),
   record {
     pull = refl;
@@ -59,9 +65,7 @@ full infos shape t value chunk i h = (
     numbers = λ idx x inside e. tells_const i.dtype (literal_number value) (full_typed shape t value chunk i h.typed) x e;
   },
 )
-
-arange : (infos : List NodeInfo) (start stop step : _) (t : _) (chunk : _) (i : NodeInfo) → IsTypedView infos (Form.Arange start stop step t chunk) i → HasPull infos (Form.Arange start stop step t chunk) i
-arange infos start stop step t chunk i h =
+view_pull infos (Form.Arange start stop step t chunk) i h =
     let g = arange_typed start stop step t chunk i h.typed in (
       pull.Arange start step,
       record {
@@ -71,9 +75,7 @@ arange infos start stop step t chunk i h =
         numbers = λ idx x inside e. tells_const i.dtype _ (g.numbers idx inside) x e;
       },
     )
-
-eye : (infos : List NodeInfo) (rows cols k : _) (t : _) (chunk : _) (i : NodeInfo) → IsTypedView infos (Form.Eye rows cols k t chunk) i → HasPull infos (Form.Eye rows cols k t chunk) i
-eye infos rows cols k t chunk i h = (
+view_pull infos (Form.Eye rows cols k t chunk) i h = (
   pull.Eye k,
   record {
     pull = refl;
@@ -82,11 +84,8 @@ eye infos rows cols k t chunk i h = (
     numbers = λ idx x inside e. tells_when i.dtype (int_eq (diagonal_of idx) k) (Const (pos 1)) (Const (pos 0)) (tells_const i.dtype (pos 1) (one_in i.dtype)) (tells_const i.dtype (pos 0) (zero_in i.dtype)) x e;
   },
 )
-
--- ---- views of one array
-
-triangle : (infos : List NodeInfo) (lower : Bool) (args : List Arg) (k : ℤ) (i : NodeInfo) → IsTypedView infos (Form.Triangle lower args k) i → HasPull infos (Form.Triangle lower args k) i
-triangle infos lower args k i h =
+-- views of one array
+view_pull infos (Form.Triangle lower args k) i h =
     let a = source infos args in
     let one = one_source infos args h.args in
     let g = checked_array (nat_le 2 (length a.dims)) (fault Axis) a.dtype a.dims a.chunk i h.typed in
@@ -100,16 +99,7 @@ triangle infos lower args k i h =
         numbers = λ idx x inside e. tells_when i.dtype (is_in_triangle lower k idx) (From 0 idx) (Const (pos 0)) (tells_from i.dtype 0 idx) (tells_const i.dtype (pos 0) (zero_in i.dtype)) x e;
       },
     )
-
-right_given : (o : Option ℕ) (r : Result NodeInfo NodeFault) (i : NodeInfo) → unless_wrong o r ≡ Ok i → (o ≡ None) × (r ≡ Ok i)
-right_given None r i h = (refl, h)
-right_given (Some k) r i h = cc
-
-few_some : (n : ℕ) (p : Pull) → n ≤ 6 → (if nat_le n 6 then Some p else None) ≡ Some p
-few_some n p h = rw (le-leb n 6 h) refl
-
-index : (infos : List NodeInfo) (args : List Arg) (items : List IndexItem) (i : NodeInfo) → IsTypedView infos (Form.Index args items) i → HasPull infos (Form.Index args items) i
-index infos args items i h =
+view_pull infos (Form.Index args items) i h =
     let a = source infos args in
     let one = one_source infos args h.args in
     let short = short_source infos args h.kept h.args in
@@ -128,9 +118,7 @@ index infos args items i h =
         numbers = λ idx x inside e. cc;
       },
     )
-
-permute : (infos : List NodeInfo) (args : List Arg) (axes : List ℤ) (i : NodeInfo) → IsTypedView infos (Form.PermuteDims args axes) i → HasPull infos (Form.PermuteDims args axes) i
-permute infos args axes i h =
+view_pull infos (Form.PermuteDims args axes) i h =
     let a = source infos args in
     let one = one_source infos args h.args in
     let short = short_source infos args h.kept h.args in
@@ -144,9 +132,7 @@ permute infos args axes i h =
         numbers = λ idx x inside e. cc;
       },
     )
-
-reshape : (infos : List NodeInfo) (args : List Arg) (shape : NewShape) (i : NodeInfo) → IsTypedView infos (Form.Reshape args shape) i → HasPull infos (Form.Reshape args shape) i
-reshape infos args (NewShape.Sizes sizes) i h =
+view_pull infos (Form.Reshape args (NewShape.Sizes sizes)) i h =
     let a = source infos args in
     let one = one_source infos args h.args in (
       pull.Reshape,
@@ -157,7 +143,7 @@ reshape infos args (NewShape.Sizes sizes) i h =
         numbers = λ idx x inside e. cc;
       },
     )
-reshape infos args (NewShape.Expanded axis) i h =
+view_pull infos (Form.Reshape args (NewShape.Expanded axis)) i h =
     let a = source infos args in
     let one = one_source infos args h.args in (
       pull.Slice (record { items = map whole_run a.dims }) (record { items = [] }),
@@ -168,7 +154,7 @@ reshape infos args (NewShape.Expanded axis) i h =
         numbers = λ idx x inside e. cc;
       },
     )
-reshape infos args (NewShape.Squeezed axes) i h =
+view_pull infos (Form.Reshape args (NewShape.Squeezed axes)) i h =
     let a = source infos args in
     let one = one_source infos args h.args in (
       pull.Slice (record { items = map whole_run a.dims }) (record { items = [] }),
@@ -179,9 +165,7 @@ reshape infos args (NewShape.Squeezed axes) i h =
         numbers = λ idx x inside e. cc;
       },
     )
-
-flip : (infos : List NodeInfo) (args : List Arg) (axes : Option (List ℤ)) (i : NodeInfo) → IsTypedView infos (Form.Flip args axes) i → HasPull infos (Form.Flip args axes) i
-flip infos args axes i h =
+view_pull infos (Form.Flip args axes) i h =
     let a = source infos args in
     let one = one_source infos args h.args in
     let g = checked_array (are_axes (length a.dims) axes) (fault Axis) a.dtype a.dims a.chunk i h.typed in (
@@ -193,9 +177,7 @@ flip infos args axes i h =
         numbers = λ idx x inside e. cc;
       },
     )
-
-roll : (infos : List NodeInfo) (args : List Arg) (shifts axes : List ℤ) (i : NodeInfo) → IsTypedView infos (Form.Roll args shifts axes) i → HasPull infos (Form.Roll args shifts axes) i
-roll infos args shifts axes i h =
+view_pull infos (Form.Roll args shifts axes) i h =
     let a = source infos args in
     let one = one_source infos args h.args in
     let g = checked_array (length shifts == length axes && are_axes (length a.dims) (Some axes)) (fault Axis) a.dtype a.dims a.chunk i h.typed in
@@ -209,9 +191,7 @@ roll infos args shifts axes i h =
         numbers = λ idx x inside e. cc;
       },
     )
-
-broadcast : (infos : List NodeInfo) (args : List Arg) (shape chunk : List ℕ) (i : NodeInfo) → IsTypedView infos (Form.BroadcastTo args shape chunk) i → HasPull infos (Form.BroadcastTo args shape chunk) i
-broadcast infos args shape chunk i h =
+view_pull infos (Form.BroadcastTo args shape chunk) i h =
     let a = source infos args in
     let one = one_source infos args h.args in
     let g = checked_array (stretches_to a.dims shape && length chunk == length shape) (fault Shape) a.dtype shape chunk i h.typed in
@@ -225,11 +205,8 @@ broadcast infos args shape chunk i h =
         numbers = λ idx x inside e. cc;
       },
     )
-
--- ---- arrays put together
-
-concat : (infos : List NodeInfo) (args : List Arg) (axis : ℤ) (i : NodeInfo) → IsTypedView infos (Form.Concat args axis) i → HasPull infos (Form.Concat args axis) i
-concat infos args axis i h =
+-- arrays put together
+view_pull infos (Form.Concat args axis) i h =
     let g = concat_typed (sources_of infos args) axis i h.typed in (
       pull.Concat (named_axis (length (source infos args).dims) axis),
       record {
@@ -239,9 +216,7 @@ concat infos args axis i h =
         numbers = λ idx x inside e. tells_concat i.dtype (named_axis (length (source infos args).dims) axis) 0 _ idx x e;
       },
     )
-
-stack : (infos : List NodeInfo) (args : List Arg) (axis : ℤ) (i : NodeInfo) → IsTypedView infos (Form.Stack args axis) i → HasPull infos (Form.Stack args axis) i
-stack infos args axis i h =
+view_pull infos (Form.Stack args axis) i h =
     let g = stack_typed (sources_of infos args) axis i h.typed in (
       pull.Stack (named_axis (length (source infos args).dims + 1) axis),
       record {
@@ -251,19 +226,4 @@ stack infos args axis i h =
         numbers = λ idx x inside e. cc;
       },
     )
-
--- each typed view by its form; the last row is of the forms that are no views
-pub view_pull : (infos : List NodeInfo) (form : Form) (i : NodeInfo) → IsTypedView infos form i → HasPull infos form i
-view_pull infos (Form.Full shape t value chunk) i h = full infos shape t value chunk i h
-view_pull infos (Form.Arange start stop step t chunk) i h = arange infos start stop step t chunk i h
-view_pull infos (Form.Eye rows cols k t chunk) i h = eye infos rows cols k t chunk i h
-view_pull infos (Form.Triangle lower args k) i h = triangle infos lower args k i h
-view_pull infos (Form.Index args items) i h = index infos args items i h
-view_pull infos (Form.Concat args axis) i h = concat infos args axis i h
-view_pull infos (Form.Stack args axis) i h = stack infos args axis i h
-view_pull infos (Form.PermuteDims args axes) i h = permute infos args axes i h
-view_pull infos (Form.Reshape args shape) i h = reshape infos args shape i h
-view_pull infos (Form.Flip args axes) i h = flip infos args axes i h
-view_pull infos (Form.Roll args shifts axes) i h = roll infos args shifts axes i h
-view_pull infos (Form.BroadcastTo args shape chunk) i h = broadcast infos args shape chunk i h
 view_pull infos form i h = let e = h.typed in cc

@@ -1,5 +1,5 @@
 -- What a typed view's pull has: it fits the shapes, and its numbers are of the result's type (this project's own rule).
-use Rattle.std.specs.Prelude.{◌≡◌, ℕ, ℤ, true, List, All, Some, Result, Ok, Err}
+use Rattle.std.specs.Prelude.{◌≡◌, ℕ, ℤ, true, List, All, Some, Result, Ok}
 use Rattle.cu_num.specs.Dtype.{InRange}
 use Rattle.cu_num.specs.Promotion.{promotion}
 use Rattle.cu_num.specs.declared.types.Dtype.{Dtype}
@@ -11,35 +11,15 @@ use Rattle.cu_origin.specs.declared.pull.Pull.{Pull}
 use Rattle.cu_origin.specs.declared.pull.Pull.TheVariants as pull
 use Rattle.cu_form.specs.Form.{args_of, takes_args, in_ranges}
 use Rattle.cu_form.specs.declared.form.Form.{Form}
-use Rattle.cu_node.specs.Fault.{fault}
-use Rattle.cu_node.specs.Info.{IsInfo, info_at}
-use Rattle.cu_node.specs.declared.faults.FaultCode.TheVariants.{Kind}
+use Rattle.cu_node.specs.Info.{IsInfo}
 use Rattle.cu_node.specs.declared.faults.NodeFault.{NodeFault}
 use Rattle.cu_node.specs.declared.info.NodeInfo.{NodeInfo}
-use Rattle.cu_typing_view.specs.Creation.{typed_full, typed_arange, typed_eye}
-use Rattle.cu_typing_view.specs.Entries.{typed_index}
-use Rattle.cu_typing_view.specs.NewShapes.{typed_new_shape}
-use Rattle.cu_typing_view.specs.Pieces.{typed_concat, typed_stack}
-use Rattle.cu_typing_view.specs.Rearranged.{typed_triangle, typed_permute, typed_flip, typed_roll}
-use Rattle.cu_typing_view.specs.Reshaped.{typed_broadcast}
 use Rattle.cu_lower_view.specs.Sources.{sources_of, dtypes_of, source_shapes}
-use Rattle.cu_lower_view.specs.View.{pull_of}
+use Rattle.cu_lower_view.specs.View.{as_view, pull_of}
 
--- the typing of a view over what is known of the arrays that it reads; the last row is of the forms that are no views
+-- the typing of a view over what is known of the arrays that it reads; a fault where the form is no view
 abbrev pub typed_as_view : Form → List NodeInfo → Result NodeInfo NodeFault
-typed_as_view (Form.Full shape t value chunk) is = typed_full shape t value chunk
-typed_as_view (Form.Arange start stop step t chunk) is = typed_arange start stop step t chunk
-typed_as_view (Form.Eye rows cols k t chunk) is = typed_eye rows cols t chunk
-typed_as_view (Form.Triangle lower args k) is = typed_triangle (info_at is 0)
-typed_as_view (Form.Index args items) is = typed_index (info_at is 0) items
-typed_as_view (Form.Concat args axis) is = typed_concat is axis
-typed_as_view (Form.Stack args axis) is = typed_stack is axis
-typed_as_view (Form.PermuteDims args axes) is = typed_permute (info_at is 0) axes
-typed_as_view (Form.Reshape args shape) is = typed_new_shape (info_at is 0) shape
-typed_as_view (Form.Flip args axes) is = typed_flip (info_at is 0) axes
-typed_as_view (Form.Roll args shifts axes) is = typed_roll (info_at is 0) shifts axes
-typed_as_view (Form.BroadcastTo args shape chunk) is = typed_broadcast (info_at is 0) shape chunk
-typed_as_view form is = Err (fault Kind)
+typed_as_view form is = (as_view form).typed is
 
 -- a node whose form is a view that is typed, where each node's array keeps the limits
 pub record IsTypedView (infos : List NodeInfo) (form : Form) (i : NodeInfo) : Type 0 where

@@ -1,14 +1,23 @@
--- The pull of a view: from where each element of a node's array comes, by the node's form (Python array API, "Creation Functions",
--- "Manipulation Functions", "Indexing"). `source` is the shape of the first array that the view reads.
-use Rattle.std.specs.Prelude.{ℕ, ◌+◌, nat_le, ℤ, List, [], length, map, Option, Some, None, if◌then◌else◌}
+-- The typing of a view and its pull: from where each element of a node's array comes, by the node's form (Python array API, "Creation
+-- Functions", "Manipulation Functions", "Indexing"). `source` is the shape of the first array that the view reads.
+use Rattle.std.specs.Prelude.{ℕ, ◌+◌, nat_le, ℤ, List, [], length, map, Option, Some, None, Result, Err, if◌then◌else◌}
 use Rattle.cu_origin.specs.declared.pull.Pull.{Pull}
 use Rattle.cu_origin.specs.declared.pull.Pull.TheVariants as pull
 use Rattle.cu_form.specs.declared.form.Form.{Form}
+use Rattle.cu_node.specs.Fault.{fault}
+use Rattle.cu_node.specs.Info.{info_at}
 use Rattle.cu_node.specs.Literal.{literal_number}
+use Rattle.cu_node.specs.declared.faults.FaultCode.TheVariants.{Kind}
+use Rattle.cu_node.specs.declared.faults.NodeFault.{NodeFault}
 use Rattle.cu_node.specs.declared.index_item.IndexItem.{IndexItem}
 use Rattle.cu_node.specs.declared.info.NodeInfo.{NodeInfo}
 use Rattle.cu_node.specs.declared.new_shape.NewShape.{NewShape}
-use Rattle.cu_typing_view.specs.Entries.{untaken}
+use Rattle.cu_typing_view.specs.Creation.{typed_full, typed_arange, typed_eye}
+use Rattle.cu_typing_view.specs.Entries.{typed_index, untaken}
+use Rattle.cu_typing_view.specs.NewShapes.{typed_new_shape}
+use Rattle.cu_typing_view.specs.Pieces.{typed_concat, typed_stack}
+use Rattle.cu_typing_view.specs.Rearranged.{typed_triangle, typed_permute, typed_flip, typed_roll}
+use Rattle.cu_typing_view.specs.Reshaped.{typed_broadcast}
 use Rattle.cu_lower_view.specs.Axes.{named_axis, is_turned, axes_that, shifts_along}
 use Rattle.cu_lower_view.specs.Runs.{whole_run, index_runs, axes_taken}
 use Rattle.cu_lower_view.specs.Sources.{first_shape}
@@ -34,21 +43,68 @@ new_shape_pull (NewShape.Sizes sizes) source = pull.Reshape
 new_shape_pull (NewShape.Expanded axis) source = pull.Slice (record { items = map whole_run source }) (record { items = [] })
 new_shape_pull (NewShape.Squeezed axes) source = pull.Slice (record { items = map whole_run source }) (record { items = [] })
 
+-- what a form is as a view
+pub record View : Type 0 where
+  -- its typing over what is known of the arrays that it reads
+  pub typed : (sources : List NodeInfo) → Result NodeInfo NodeFault
+  -- its pull; none where it is no view, or where typing refuses it
+  pub pull : (source : List ℕ) → Option Pull
+
+-- each form; the last row is of those that are no views
+abbrev pub as_view : Form → View
+as_view (Form.Full shape t value chunk) = record {
+  typed = λ is. typed_full shape t value chunk;
+  pull = λ source. Some (pull.Full (literal_number value));
+}
+as_view (Form.Arange start stop step t chunk) = record {
+  typed = λ is. typed_arange start stop step t chunk;
+  pull = λ source. Some (pull.Arange start step);
+}
+as_view (Form.Eye rows cols k t chunk) = record {
+  typed = λ is. typed_eye rows cols t chunk;
+  pull = λ source. Some (pull.Eye k);
+}
+as_view (Form.Triangle lower args k) = record {
+  typed = λ is. typed_triangle (info_at is 0);
+  pull = λ source. Some (pull.Triangle lower k);
+}
+as_view (Form.Index args items) = record {
+  typed = λ is. typed_index (info_at is 0) items;
+  pull = λ source. slice_pull items source;
+}
+as_view (Form.Concat args axis) = record {
+  typed = λ is. typed_concat is axis;
+  pull = λ source. Some (pull.Concat (named_axis (length source) axis));
+}
+as_view (Form.Stack args axis) = record {
+  typed = λ is. typed_stack is axis;
+  pull = λ source. Some (pull.Stack (named_axis (length source + 1) axis));
+}
+as_view (Form.PermuteDims args axes) = record {
+  typed = λ is. typed_permute (info_at is 0) axes;
+  pull = λ source. permute_pull axes source;
+}
+as_view (Form.Reshape args shape) = record {
+  typed = λ is. typed_new_shape (info_at is 0) shape;
+  pull = λ source. Some (new_shape_pull shape source);
+}
+as_view (Form.Flip args axes) = record {
+  typed = λ is. typed_flip (info_at is 0) axes;
+  pull = λ source. Some (flip_pull axes source);
+}
+as_view (Form.Roll args shifts axes) = record {
+  typed = λ is. typed_roll (info_at is 0) shifts axes;
+  pull = λ source. Some (pull.Roll (record { items = shifts_along (length source) shifts axes }));
+}
+as_view (Form.BroadcastTo args shape chunk) = record {
+  typed = λ is. typed_broadcast (info_at is 0) shape chunk;
+  pull = λ source. Some pull.Broadcast;
+}
+as_view form = record { typed = λ is. Err (fault Kind); pull = λ source. None }
+
 -- the view that a form is; none where it is no view
 abbrev pub view_of : Form → List ℕ → Option Pull
-view_of (Form.Full shape t value chunk) source = Some (pull.Full (literal_number value))
-view_of (Form.Arange start stop step t chunk) source = Some (pull.Arange start step)
-view_of (Form.Eye rows cols k t chunk) source = Some (pull.Eye k)
-view_of (Form.Triangle lower args k) source = Some (pull.Triangle lower k)
-view_of (Form.Index args items) source = slice_pull items source
-view_of (Form.Concat args axis) source = Some (pull.Concat (named_axis (length source) axis))
-view_of (Form.Stack args axis) source = Some (pull.Stack (named_axis (length source + 1) axis))
-view_of (Form.PermuteDims args axes) source = permute_pull axes source
-view_of (Form.Reshape args shape) source = Some (new_shape_pull shape source)
-view_of (Form.Flip args axes) source = Some (flip_pull axes source)
-view_of (Form.Roll args shifts axes) source = Some (pull.Roll (record { items = shifts_along (length source) shifts axes }))
-view_of (Form.BroadcastTo args shape chunk) source = Some pull.Broadcast
-view_of form source = None
+view_of form source = (as_view form).pull source
 
 -- the same over what is known of the nodes of an expression
 abbrev pub pull_of : List NodeInfo → Form → Option Pull

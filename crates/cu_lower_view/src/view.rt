@@ -91,14 +91,7 @@ fn view_of(form: &Form, source: &Dims) -> Option<Pull>
             shifts: shifts_along(rank, shifts.as_slice(), axes.as_slice()),
         }),
         Form::BroadcastTo { .. } => Some(Pull::Broadcast),
-        Form::Input { .. }
-        | Form::Elementwise { .. }
-        | Form::Rechunk { .. }
-        | Form::Reduce { .. }
-        | Form::ArgPlace { .. }
-        | Form::Matmul { .. }
-        | Form::CumulativeSum { .. }
-        | Form::GroupBy { .. } => None,
+        _ => None,
     }
 }
 

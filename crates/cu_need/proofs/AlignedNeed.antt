@@ -1,22 +1,17 @@
 -- The memory of an elementwise node whose arguments are aligned.
-use Rattle.std.proofs.Common.{◌≡◌, ◌+◌, ◌*◌, true, false, not, List, [], ◌∷◌, ℕ, length, map, refl, sym, ap, ◌∙◌, ◌↔◌, arith}
+use Rattle.std.proofs.Common.{◌≡◌, ◌+◌, ◌*◌, true, false, not, List, [], ◌∷◌, ℕ, max, map, refl, sym, ap, ◌∙◌, ◌↔◌, arith}
 use Rattle.std.specs.Prelude.{sum_by, filter}
 use Rattle.std.proofs.lemmas.Bool.{and_parts, not-false}
 use Rattle.std.proofs.lemmas.List.Sums.{sum_by-cons}
 use Rattle.std.proofs.lemmas.Slice.Eq.{bytes_eq-Decides}
-use Rattle.cu_form.specs.declared.args.Arg.{Arg}
-use Rattle.cu_form.specs.declared.form.Form.{Form}
-use Rattle.cu_node.specs.Info.{info_at, chunk_bytes}
-use Rattle.cu_node.specs.declared.element_op.ElementOp.{ElementOp}
+use Rattle.cu_node.specs.Info.{chunk_bytes}
 use Rattle.cu_node.specs.declared.info.NodeInfo.{NodeInfo}
 use Rattle.cu_num.specs.Dtype.{size_of}
 use Rattle.cu_shape.specs.Index.{product}
 use Rattle.cu_typing.specs.Joined.{aligned_chunk}
-use Rattle.cu_need.specs.Chunks.{arrays_in, aligned_bytes, is_aligned}
+use Rattle.cu_need.specs.Chunks.{aligned_bytes, is_aligned}
 use Rattle.cu_copy.specs.Copies.{is_misaligned, rechunk_need}
-use Rattle.cu_need.specs.Elementwise.{are_aligned, own_instructions, function_need}
-use Rattle.cu_need.specs.Need.{need_of}
-use Rattle.cu_need.specs.Operands.{copies_of, in_aligned}
+use Rattle.cu_need.specs.Elementwise.{are_aligned, in_aligned, function_need}
 use Rattle.cu_copy.specs.declared.copies.Rechunk.{Rechunk}
 use Rattle.cu_shape.specs.Counts.{largest}
 
@@ -61,11 +56,12 @@ function_aligned reserved instructions result is h =
     let scratch : largest (chunk_bytes result ∷ map (aligned_bytes result) is) ≡ largest (map chunk_bytes (result ∷ is)) = ap (λ (ns : List ℕ). largest (chunk_bytes result ∷ ns)) sizes in
     omega (arith, scratch, sum)
 
-pub aligned_need : (reserved split_every out k : ℕ) (infos : List NodeInfo) (op : ElementOp) (args : List Arg) → are_aligned (info_at infos k) (arrays_in infos args) ≡ true
-    → need_of reserved split_every infos out k (Form.Elementwise op args)
-    ≡ reserved + largest (map chunk_bytes (info_at infos k ∷ arrays_in infos args)) + sum_by chunk_bytes (arrays_in infos args) + chunk_bytes (info_at infos k) + 512 * (length args + own_instructions op)
-aligned_need reserved split_every out k infos op args h =
-    let none : largest (map (rechunk_need reserved) (copies_of infos out k (Form.Elementwise op args))) ≡ 0 =
-    ap (λ (copies : List Rechunk). largest (map (rechunk_need reserved) copies)) (none_misaligned (info_at infos k) (arrays_in infos args) h) in
-    let own = function_aligned reserved (length args + own_instructions op) (info_at infos k) (arrays_in infos args) h in
+-- no argument is copied, and the function needs what its own chunks do
+pub aligned_need : (reserved instructions : ℕ) (result : NodeInfo) (is : List NodeInfo) → are_aligned result is ≡ true
+    → max (function_need reserved result instructions is) (largest (map (rechunk_need reserved) (filter is_misaligned (map (in_aligned result) is))))
+    ≡ reserved + largest (map chunk_bytes (result ∷ is)) + sum_by chunk_bytes is + chunk_bytes result + 512 * instructions
+aligned_need reserved instructions result is h =
+    let none : largest (map (rechunk_need reserved) (filter is_misaligned (map (in_aligned result) is))) ≡ 0 =
+    ap (λ (copies : List Rechunk). largest (map (rechunk_need reserved) copies)) (none_misaligned result is h) in
+    let own = function_aligned reserved instructions result is h in
     omega (arith, none, own)

@@ -17,8 +17,7 @@ use Rattle.cu_typing.proofs.PassedAlong.{cumulative_passed, groups_passed}
 use Rattle.cu_tree.specs.Sums.{IsSummed}
 use Rattle.cu_tree.proofs.Sizes.{count_few}
 use Rattle.cu_copy.specs.Copies.{IsRechunk, in_chunks, rechunked}
-use Rattle.cu_need.specs.Along.{sum_axis, group_axis, labels_wanted}
-use Rattle.cu_need.specs.Need.{AreGroupsWithin}
+use Rattle.cu_need.specs.Along.{sum_axis, group_axis, labels_wanted, AreGroupsWithin}
 use Rattle.cu_need.proofs.SoughtAxes.{axis_below, some_when}
 
 -- ---- prefix sums

@@ -2,6 +2,7 @@ pub mod AlignedNeed
 mod AlongExamples
 pub mod AlongTypes
 mod CopyExamples
+pub mod CostLaws
 mod Examples
 pub mod FirstLive
 pub mod LiveNodes
@@ -14,3 +15,4 @@ pub mod SoughtAxes
 pub mod Staged
 pub mod TypedNodes
 pub mod WantedChunks
+pub mod WithinLimits

@@ -190,10 +190,6 @@ none_left out k nodes j end =
     let e : drop k nodes ≡ [] = rw end (drop-length nodes) in
     ap (λ (ns : List Node). is_live_from out k ns j) e
 
--- the arguments of a live node are marked
-pub one_live : (out k p : ℕ) (nodes : List Node) (n : Node) (j : ℕ) → p + 1 ≡ k → p < length nodes → n ≡ get_or nodes p n → is_live_from out k (drop k nodes) p ≡ true → (is_live_from out k (drop k nodes) j || has_argument n j) ≡ is_live_from out p (drop p nodes) j
-one_live out k p nodes n j next inside at live = sym (one_more out k p nodes n j next inside at ∙ rw live refl)
-
 -- a node that is looked up names earlier nodes
 pub node_earlier : (e : Expression) (nodes : List Node) (p : ℕ) (d : Node) (args : List Arg) → IsExpression e → nodes ≡ e.nodes → p < length nodes → args ≡ args_of (get_or nodes p d).form → list_all (is_earlier p) args ≡ true
 node_earlier e nodes p d args is same inside taken =

@@ -23,9 +23,6 @@ live_behind_dead e nodes k d inside dead = one_behind e nodes k d inside ∙ rw 
 
 -- ---- the first that passes a test
 
-pub found_here : (e : Expression) (nodes : List Node) (k : ℕ) (d : Node) (test : ℕ × Node → Bool) → k < length nodes → is_live e k ≡ true → test (k, get_or nodes k d) ≡ true → find test (live_behind e k (drop k nodes)) ≡ Some (k, get_or nodes k d)
-found_here e nodes k d test inside live passes = ap (λ (ns : List (ℕ × Node)). find test ns) (live_behind_live e nodes k d inside live) ∙ rw passes refl
-
 pub found_later : (e : Expression) (nodes : List Node) (k : ℕ) (d : Node) (test : ℕ × Node → Bool) → k < length nodes → is_live e k ≡ true → test (k, get_or nodes k d) ≡ false → find test (live_behind e k (drop k nodes)) ≡ find test (live_behind e (k + 1) (drop (k + 1) nodes))
 found_later e nodes k d test inside live fails = ap (λ (ns : List (ℕ × Node)). find test ns) (live_behind_live e nodes k d inside live) ∙ rw fails refl
 

@@ -13,8 +13,8 @@ use Rattle.cu_typing.specs.Joined.{lead_of, fills, aligned_on, aligned_chunk}
 use Rattle.cu_typing.specs.Matmul.{leading, rows, columns, left_summed, leading_array, leading_arrays, leading_chunk, left_aligned, right_aligned}
 use Rattle.cu_typing.proofs.Chunks.{length-joined_chunk, length-aligned_chunk}
 use Rattle.cu_copy.specs.Copies.{IsRechunk}
-use Rattle.cu_need.specs.Operands.{in_aligned, left_wanted, right_wanted}
-use Rattle.cu_need.specs.Reduction.{leading_count, leading_aligned}
+use Rattle.cu_need.specs.Elementwise.{in_aligned}
+use Rattle.cu_need.specs.Reduction.{leading_count, leading_aligned, left_wanted, right_wanted}
 
 -- ---- sizes above 0
 

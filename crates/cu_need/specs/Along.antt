@@ -1,7 +1,7 @@
 -- The memory of prefix sums and of groups by labels, in bytes (this project's own rule). `reserved` are the
 -- bytes that are kept for everything else, `split_every` is how many partial results a task merges or carries over, `made` and `source`
 -- tell of the node's array and of its first argument's.
-use Rattle.std.specs.Prelude.{ℕ, ℤ, length, Option, unwrap_or}
+use Rattle.std.specs.Prelude.{ℕ, ◌<◌, ℤ, length, Option, unwrap_or}
 use Rattle.cu_node.specs.Axes.{axis_of}
 use Rattle.cu_node.specs.declared.info.NodeInfo.{NodeInfo}
 use Rattle.cu_typing.specs.Along.{summed_axis, labels_aligned}
@@ -10,7 +10,7 @@ use Rattle.cu_tree.specs.Partials.{product_rounds}
 pub use Rattle.cu_tree.specs.Sums.{sums_array, sums_arrays, sums_count, cumulative_need}
 use Rattle.cu_copy.specs.Copies.{in_chunks, rechunked}
 use Rattle.cu_copy.specs.declared.copies.Rechunk.{Rechunk}
-use Rattle.cu_node.specs.Info.{chunk_bytes}
+use Rattle.cu_node.specs.Info.{IsInfo, chunk_bytes}
 
 -- ---- prefix sums, whose arrays of sums and memory are told of where their rounds are
 
@@ -35,3 +35,7 @@ group_need reserved split_every made source labels =
     with_merges (product_rounds split_every (rechunked labels) made)
     (product_need reserved (chunk_bytes source) (chunk_bytes (rechunked labels)) (chunk_bytes made))
     (merge_need reserved split_every (chunk_bytes made))
+
+-- the labels in the array's chunks, and the results of groups with one more axis
+abbrev pub AreGroupsWithin : NodeInfo → NodeInfo → Type 0
+AreGroupsWithin made labels = IsInfo labels × (0 < length labels.dims) × (length made.dims < 6)

@@ -5,9 +5,16 @@ use Rattle.std.specs.List.{list_all}
 use Rattle.cu_node.specs.declared.element_op.ElementOp.{ElementOp}
 use Rattle.cu_node.specs.declared.element_op.ElementOp.TheVariants.{Extreme, Clip}
 use Rattle.cu_node.specs.declared.info.NodeInfo.{NodeInfo}
+use Rattle.cu_copy.specs.Copies.{in_chunks}
+use Rattle.cu_copy.specs.declared.copies.Rechunk.{Rechunk}
 use Rattle.cu_need.specs.Chunks.{aligned_bytes, is_aligned}
 use Rattle.cu_shape.specs.Counts.{largest}
 use Rattle.cu_node.specs.Info.{chunk_bytes}
+use Rattle.cu_typing.specs.Joined.{aligned_chunk}
+
+-- an argument: the result's chunks on each axis that it fills, and its own where it is stretched
+abbrev pub in_aligned : NodeInfo → NodeInfo → Rechunk
+in_aligned made i = in_chunks i (aligned_chunk made.dims made.chunk i)
 
 -- each argument's array has the chunk to which it is aligned
 abbrev pub are_aligned : NodeInfo → List NodeInfo → Bool

@@ -1,5 +1,6 @@
 pub mod Along
 pub mod Chunks
+pub mod Cost
 pub mod Counts
 pub mod Elementwise
 pub mod Live
@@ -8,3 +9,4 @@ pub mod Operands
 pub mod Outline
 pub mod Reduction
 pub mod View
+pub mod ViewBytes

@@ -9,9 +9,9 @@ ghost use Rattle.cu_need.specs.Operands.{operands_of};
 ghost use Rattle.cu_need.specs.Need.{ArePartialsWithin, IsNodeWithin, AreWithinLimits};
 
 use crate::copies::copies_counts;
+use crate::cost::outline_of;
 use crate::live::live_marks;
 use crate::operands::copies_of;
-use crate::outline::outline_of;
 use cu_form::{Expr, Form};
 use cu_node::NodeInfo;
 use cu_tree::{outline_cells, outline_tasks};

@@ -4,8 +4,7 @@ ghost use Rattle.std.specs.Prelude.{◌≡◌, ◌≤◌, ◌+◌, ◌^◌, ◌+
 ghost use Rattle.cu_node.specs.Info.{IsInfo};
 ghost use Rattle.cu_typing.specs.Joined.{aligned_within};
 ghost use Rattle.cu_need.specs.Chunks.{arrays_in};
-ghost use Rattle.cu_need.specs.Elementwise.{own_instructions, function_bytes};
-ghost use Rattle.cu_need.specs.Operands.{in_aligned};
+ghost use Rattle.cu_need.specs.Elementwise.{in_aligned, own_instructions, function_bytes};
 
 use crate::chunks::aligned_bytes;
 use arrayvec::ArrayVec;

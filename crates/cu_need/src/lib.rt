@@ -5,17 +5,18 @@
 mod along;
 mod chunks;
 mod copies;
+mod cost;
 mod counts;
 mod elementwise;
 mod laws;
 mod live;
 mod need;
 mod operands;
-mod outline;
 mod reduction;
 mod view;
 
 pub use along::{group_axis, labels_wanted, sum_axis};
+pub use cost::is_view;
 pub use counts::{OverLimit, PlanCounts, plan_counts};
 pub use cu_copy::{Rechunk, max_mem};
 pub use laws::{aligned_law, copies_law, counts_law, live_law, outline_law, over_law, typed_law};
@@ -23,4 +24,3 @@ pub use live::live_marks;
 pub use need::{NodeNeed, first_over, need_of, own_need};
 pub use operands::{copies_of, operands_of};
 pub use reduction::{array_of, axes_reduced, left_wanted, reduced_axes, right_wanted, sought_axis};
-pub use view::is_view;

@@ -8,9 +8,9 @@ ghost use Rattle.cu_need.specs.Need.{own_need, need_of, first_over, ArePartialsW
 ghost use Rattle.cu_need.specs.Operands.{operands_of};
 
 use crate::copies::copies_need;
+use crate::cost::outline_of;
 use crate::live::live_marks;
 use crate::operands::copies_of;
-use crate::outline::outline_of;
 use cu_form::{Expr, Form};
 use cu_node::NodeInfo;
 use cu_tree::outline_bytes;

@@ -1,8 +1,7 @@
 //! The axes of reductions and of searches for places, and the operands of products of matrices.
 
 ghost use Rattle.std.specs.Prelude.{◌≡◌, ◌≤◌, take, option_map};
-ghost use Rattle.cu_need.specs.Reduction.{array_of, reduced_axes, sought_axis, axes_reduced, axes_sought, leading_count};
-ghost use Rattle.cu_need.specs.Operands.{left_wanted, right_wanted};
+ghost use Rattle.cu_need.specs.Reduction.{array_of, reduced_axes, sought_axis, axes_reduced, axes_sought, leading_count, left_wanted, right_wanted};
 
 use cu_copy::Rechunk;
 use cu_form::{Arg, Items};

@@ -3,28 +3,11 @@
 ghost use Rattle.std.specs.Prelude.{◌≡◌, ◌≤◌, ◌^◌, All};
 ghost use Rattle.cu_node.specs.Info.{IsInfo};
 ghost use Rattle.cu_need.specs.Chunks.{arrays_in};
-ghost use Rattle.cu_need.specs.View.{is_view, view_bytes};
+ghost use Rattle.cu_need.specs.ViewBytes.{view_bytes};
 
 use cu_copy::chunk_bytes;
-use cu_form::{Arg, Form};
+use cu_form::Arg;
 use cu_node::{NodeInfo, info_at, info_law};
-
-/// Whether the form is a view, or an array that is made from nothing. The same elements in other chunks are a copy, and no view.
-pub fn is_view(form: &Form) -> bool
-    ensures { result ≡ is_view form.now }
-{
-    match form {
-        Form::Input { .. }
-        | Form::Elementwise { .. }
-        | Form::Rechunk { .. }
-        | Form::Reduce { .. }
-        | Form::ArgPlace { .. }
-        | Form::Matmul { .. }
-        | Form::CumulativeSum { .. }
-        | Form::GroupBy { .. } => false,
-        _ => true,
-    }
-}
 
 /// The bytes of a view, whose array `made` tells of, besides those that are reserved: its greatest chunk, and one of the result.
 pub(crate) fn view_bytes(infos: &[NodeInfo], made: &NodeInfo, args: &[Arg]) -> u64

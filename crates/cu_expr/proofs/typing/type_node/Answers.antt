@@ -13,7 +13,7 @@ type_form-requires-clause-count c =
     let e = c.in_ok-arrays.ensures in
     let f = c.deref-3.ensures.value in
     let told : c.deref-3.result.now ≡ arrays_of (told_of c.args.infos.now c.args.form.now) = cc in
-    rw told (told_count c.args.infos.now c.args.form.now c.requires.form.args)
+    rw told (told_count c.args.infos.now c.args.form.now)
 
 pub type_form-requires-clause-arrays : goal.type_form-requires-clause-arrays
 type_form-requires-clause-arrays c =
