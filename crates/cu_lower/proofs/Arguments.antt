@@ -16,6 +16,7 @@ use Rattle.cu_typing.specs.Joined.{arrays_of}
 use Rattle.cu_expr.specs.Typing.{argument_of}
 use Rattle.cu_need.specs.Chunks.{arrays_in}
 use Rattle.cu_need.specs.Live.{is_live, is_node, IsClosed}
+use Rattle.cu_lower_view.specs.Sources.{sources_of}
 use Rattle.cu_lower.specs.Parts.{array_places}
 
 -- P holds of each node that is an argument
@@ -84,6 +85,13 @@ arrays_told infos [] = refl
 arrays_told infos (Arg.Node n ∷ args) = ap (λ is. info_at infos n ∷ is) (arrays_told infos args)
 arrays_told infos (Arg.Int x ∷ args) = arrays_told infos args
 arrays_told infos (Arg.Truth b ∷ args) = arrays_told infos args
+
+-- in the words of views
+pub sources_in : (infos : List NodeInfo) (args : List Arg) → arrays_in infos args ≡ sources_of infos args
+sources_in infos [] = refl
+sources_in infos (Arg.Node n ∷ args) = ap (λ is. info_at infos n ∷ is) (sources_in infos args)
+sources_in infos (Arg.Int x ∷ args) = sources_in infos args
+sources_in infos (Arg.Truth b ∷ args) = sources_in infos args
 
 -- what holds of each array among the arguments
 pub each_array : (infos : List NodeInfo) (P : NodeInfo → Type 0) (args : List Arg) → All P (arrays_in infos args) → Each (λ n. P (info_at infos n)) args

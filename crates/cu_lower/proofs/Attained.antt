@@ -11,9 +11,9 @@ use Rattle.cu_need.specs.Live.{is_live, IsClosed}
 use Rattle.cu_need.specs.Need.{own_need}
 use Rattle.cu_lower_reduce.specs.Copies.{is_copy}
 use Rattle.cu_lower_reduce.specs.declared.step.Step.{Step}
-use Rattle.cu_lower.specs.Parts.{Grown, is_given, is_none, with_step, with_steps}
+use Rattle.cu_lower.specs.Parts.{Grown, is_computed, is_given, is_none, with_step, with_steps}
 use Rattle.cu_lower.specs.Plan.{plan_of}
-use Rattle.cu_lower.specs.Premises.{is_computed, IsComputedNode, IsLowerable, NeedsAsMuch}
+use Rattle.cu_lower.specs.Premises.{IsComputedNode, IsLowerable, NeedsAsMuch}
 use Rattle.cu_lower.specs.declared.options.Options.{Options}
 use Rattle.cu_lower.proofs.Growing.{Front}
 use Rattle.cu_lower.proofs.NodeSteps.{node_own}

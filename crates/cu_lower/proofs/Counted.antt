@@ -24,7 +24,7 @@ use Rattle.cu_lower.specs.Parts.{Grown, IsGrown, is_given, source_places, with_s
 use Rattle.cu_lower.specs.Plan.{first_grown, grown_after}
 use Rattle.cu_lower.specs.Premises.{IsLowerable}
 use Rattle.cu_lower.specs.declared.options.Options.{Options}
-use Rattle.cu_lower.proofs.FormKinds.{IsGivenInput, given_kind, node_made, node_given}
+use Rattle.cu_lower.proofs.GivenInputs.{IsGivenInput, given_kind, node_made, node_given}
 use Rattle.cu_lower.proofs.Growing as growing
 use Rattle.cu_lower.proofs.Growing.{Front, front_then, front_here}
 use Rattle.cu_lower.proofs.NodeSteps.{all_steps, node_own}

@@ -24,7 +24,7 @@ use Rattle.cu_lower.specs.Plan.{grown_after}
 use Rattle.cu_lower.specs.declared.options.Options.{Options}
 use Rattle.cu_lower.specs.Parts.{Grown, IsGrowing, IsGrown, HasSteps, Make, source_places, pair_arrays, is_none, steps_of, with_step, with_steps, with_place, with_last, with_next_node, with_live}
 use Rattle.cu_lower.proofs.InputNames.{input_placed}
-use Rattle.cu_lower.proofs.FormKinds.{given_kind, node_made, node_given}
+use Rattle.cu_lower.proofs.GivenInputs.{given_kind, node_made, node_given}
 
 abbrev pub HasGrid : NodeInfo → Type 0
 HasGrid i = IsGrid (grid_of i)

@@ -1,16 +1,13 @@
 -- The input arrays of a plan, by their names.
-use Rattle.std.proofs.Common.{◌≡◌, ◌↔◌, IsTrue, drop, ℕ, zero, suc, ◌<◌, ◌+◌, Bool, true, false, List, [], ◌∷◌, ◌++◌, Some, length, get_or, refl, ap, sym, ◌∙◌, subst, inl, inr, arith}
-use Rattle.std.specs.Prelude.{slice_get, nat_lt, bytes_eq, if◌then◌else◌, unwrap_or}
+use Rattle.std.proofs.Common.{◌≡◌, drop, ℕ, zero, suc, ◌<◌, ◌+◌, Bool, true, false, List, [], ◌∷◌, ◌++◌, Some, length, get_or, refl, ap, sym, ◌∙◌, subst, inl, inr, arith}
+use Rattle.std.specs.Prelude.{slice_get, nat_lt, bytes_eq, if◌then◌else◌}
 use Rattle.std.specs.List.{list_any, position_or_len}
 use Rattle.std.proofs.lemmas.Bool.{cases_Bool, cases_lt, lt-ltb, le-ltb}
-use Rattle.std.proofs.lemmas.List.{drop_more, length_push, get_or_append_left, get_or_at}
+use Rattle.std.proofs.lemmas.List.{length_push, get_or_append_left, get_or_at}
 use Rattle.std.proofs.lemmas.Slice.Eq.{bytes_eq-Decides}
 use Rattle.cu_form.specs.Expression.{Expression}
 use Rattle.cu_form.specs.declared.expr.Node.{Node}
 use Rattle.cu_form.specs.declared.form.Form.{Form}
-use Rattle.cu_node.specs.Info.{no_info}
-use Rattle.cu_expr.specs.Inputs.{layout_info, named_input, layout_named}
-use Rattle.cu_expr.specs.declared.inputs.InputInfo.{InputInfo}
 use Rattle.cu_need.specs.Live.{is_live}
 use Rattle.cu_lower.specs.Inputs.{with_name, names_after, input_names, input_place}
 

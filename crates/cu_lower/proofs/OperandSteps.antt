@@ -1,50 +1,34 @@
 -- What the steps of a node come to whatever arrays its arguments have, and those of a node with copies.
-use Rattle.std.proofs.Common.{◌≡◌, ◌≢◌, ℕ, ◌<◌, ◌≤◌, ◌+◌, ◌*◌, ◌^◌, ◌==◌, Bool, true, false, List, [], ◌∷◌, ◌++◌, All, filter, length, Option, None, Some, Ok, sum_by, ℤ, refl, ap, sym, ◌∙◌, subst, inr, arith, if◌then◌else◌}
-use Rattle.std.specs.Prelude.{slice_index}
+use Rattle.std.proofs.Common.{◌≡◌, ◌≢◌, ℕ, ◌<◌, ◌≤◌, ◌+◌, ◌*◌, ◌^◌, Bool, true, false, List, [], ◌∷◌, ◌++◌, All, filter, length, Option, None, Some, sum_by, refl, ap, sym, ◌∙◌, subst, inr, arith}
 use Rattle.std.proofs.lemmas.List.{append_assoc, length-append}
 use Rattle.std.proofs.lemmas.List.Elements.{All-append, All-cons, All-nil, All-weaker}
 use Rattle.std.proofs.lemmas.List.Sums.{count_by-le-length, length-filter, sum_by-append, sum_by-cons}
 use Rattle.cu_copy.specs.Chunks.{chunk_count}
-use Rattle.cu_copy.specs.Copies.{in_chunks, is_misaligned, max_mem, rechunk_cells, rechunk_tasks, rechunked}
+use Rattle.cu_copy.specs.Copies.{is_misaligned, max_mem, rechunk_cells, rechunk_tasks, rechunked}
 use Rattle.cu_copy.specs.declared.copies.Rechunk.{Rechunk}
 use Rattle.cu_grid.specs.Grid.{IsGrid}
 use Rattle.cu_op.specs.declared.operation.Op.{Op}
-use Rattle.cu_form.specs.Form.{args_of}
-use Rattle.cu_form.specs.declared.args.Arg.{Arg}
 use Rattle.cu_form.specs.declared.form.Form.{Form}
-use Rattle.cu_node.specs.Info.{IsInfo, info_at, chunk_bytes}
-use Rattle.cu_node.specs.declared.element_op.ElementOp.{ElementOp}
+use Rattle.cu_node.specs.Info.{IsInfo, info_at}
 use Rattle.cu_node.specs.declared.info.NodeInfo.{NodeInfo}
 use Rattle.cu_need.specs.Counts.{node_cells, own_cells, own_tasks, node_tasks}
-use Rattle.cu_need.specs.Chunks.{arrays_in}
-use Rattle.cu_need.specs.Elementwise.{function_bytes, own_instructions}
-use Rattle.cu_need.specs.Need.{own_need, IsTyped}
+use Rattle.cu_need.specs.Need.{own_need}
 use Rattle.cu_need.specs.Operands.{copies_of, operands_of}
 use Rattle.cu_need.specs.Outline.{outline_of}
-use Rattle.cu_need.specs.Reduction.{array_of}
-use Rattle.cu_need.specs.View.{is_view, view_bytes}
 use Rattle.cu_need.proofs.Outlined.{table_most}
-use Rattle.cu_num.specs.declared.folds.FoldKind.{FoldKind}
-use Rattle.cu_tree.specs.Outlines.{outline_arrays, outline_bytes, plain, product_outline, IsOutline}
+use Rattle.cu_tree.specs.Outlines.{outline_arrays, outline_bytes, plain, IsOutline}
 use Rattle.cu_tree.specs.Partials.{IsMiddle}
 use Rattle.cu_tree.specs.declared.outline.Outlined.{Outlined}
 use Rattle.cu_tree.proofs.Middles.{of_info}
-use Rattle.cu_typing.specs.Matmul.{typed_matmul}
-use Rattle.cu_lower_reduce.specs.Copies.{aligned_places, aligned_steps, copy_steps, is_copy, AreCopies, IsCopyStep, IsStaged}
-use Rattle.cu_lower_reduce.specs.Cumulative.{cumulative_steps, IsCumulative}
-use Rattle.cu_lower_reduce.specs.Grouped.{grouped_steps, IsGrouped}
+use Rattle.cu_lower_reduce.specs.Copies.{aligned_places, aligned_steps, copy_steps, is_copy, AreCopies, AreOperands, IsCopyStep, IsStaged}
 use Rattle.cu_lower_reduce.specs.Partials.{IsSetting}
-use Rattle.cu_lower_reduce.specs.Products.{product_steps}
-use Rattle.cu_lower_reduce.specs.Reductions.{reduction_steps, IsReduction}
-use Rattle.cu_lower_reduce.specs.Searches.{search_steps, IsSearch}
 use Rattle.cu_lower_reduce.specs.Steps.{all_made, grid_of, made_infos, step_tasks, with_values, ComeTo}
+use Rattle.cu_lower_reduce.specs.declared.copy.CopySetting.{CopySetting}
 use Rattle.cu_lower_reduce.specs.declared.step.Step.{Step}
 use Rattle.cu_lower_reduce.proofs.Operands.{made_append}
-use Rattle.cu_lower.specs.Parts.{copying, cumulative_of, grouped_of, grouped_over, map_of, only_step, product_of, reduction_of, search_of, setting, steps_of, view_op, CanCopy, Make}
-use Rattle.cu_lower.specs.Premises.{is_computed}
+use Rattle.cu_lower.specs.Parts.{behind_copies, copying, is_computed, only_step, setting, CanCopy, Make}
 use Rattle.cu_lower.specs.declared.options.Options.{Options}
 use Rattle.cu_lower.proofs.OutlinedSteps.{outlined_attain, outlined_few, outlined_made, outlined_needs, outlined_others, outlined_sum, Attain}
-use Rattle.cu_lower.proofs.ProductTypes.{left_kept, product_typed}
 use Rattle.cu_lower.proofs.StepLaws.{HaveLaws}
 
 -- ---- the options
@@ -78,7 +62,7 @@ pub record AreOwn (infos : List NodeInfo) (options : Options) (out k : ℕ) (f :
   pub attained : is_computed f ≡ true → Attain (own_need options.reserved options.split_every infos k f) ss
 
 -- the one step of a node whose operation isn't a copy
-only_computed : (infos : List NodeInfo) (reserved k bytes need : ℕ) (op : Op) → IsInfo (info_at infos k) → is_copy op ≡ false → need ≡ reserved + bytes
+pub only_computed : (infos : List NodeInfo) (reserved k bytes need : ℕ) (op : Op) → IsInfo (info_at infos k) → is_copy op ≡ false → need ≡ reserved + bytes
     → ComeTo reserved (plain (info_at infos k) bytes ∷ []) (info_at infos k) (only_step infos k op need)
 only_computed infos reserved k bytes need op kept other is = record {
   outlined = ((λ j. record { op = op; values = None; made = info_at infos k; need = is j }, other), tt);
@@ -164,7 +148,7 @@ module _ (infos : List NodeInfo) (options : Options) (out k : ℕ) (f : Form) wh
       }) h
 
   -- of a node that is a copy alone
-  copies_own : (laws : HaveLaws) (first source : ℕ) (r : Rechunk) → IsStaged (copying options first) r → rechunked r ≡ info_at infos k → copies_of infos out k f ≡ r ∷ []
+  pub copies_own : (laws : HaveLaws) (first source : ℕ) (r : Rechunk) → IsStaged (copying options first) r → rechunked r ≡ info_at infos k → copies_of infos out k f ≡ r ∷ []
       → own_tasks options.split_every infos k f ≡ 0 → own_cells options.split_every infos k f ≡ 0 → is_computed f ≡ false → AreOwn infos options out k f (copy_steps (copying options first) source r)
   copies_own laws first source r staged made one tasks cells alone =
       let s = copying options first in
@@ -185,107 +169,28 @@ module _ (infos : List NodeInfo) (options : Options) (out k : ℕ) (f : Form) wh
         attained = λ computed. not_both (is_computed f) _ computed alone;
       }
 
--- ---- by the form
+-- ---- steps that read operands in the chunks that are wanted of them
 
-pub function_own : (laws : HaveLaws) (infos : List NodeInfo) (options : Options) (out k : ℕ) (op : ElementOp) (args : List Arg) (ins : List ℕ) (first : ℕ)
-    → CanCopy infos options k (Form.Elementwise op args) first → length ins ≡ length (operands_of infos k (Form.Elementwise op args)) → IsInfo (info_at infos k)
-    → AreOwn infos options out k (Form.Elementwise op args) (steps_of infos options k (Form.Elementwise op args) ins first)
-function_own laws infos options out k op args ins first can long kept =
+-- the copies make few arrays
+pub copies_few : (laws : HaveLaws) (s : CopySetting) (ins : List ℕ) (rs : List Rechunk) → AreOperands s rs → length ins ≡ length rs → length rs ≤ 3 → s.first + length (all_made (aligned_steps s ins rs)) ≤ s.first + 16
+copies_few laws s ins rs can long three =
+    let c = laws.operands.sizes s ins rs can long in
+    let few = c.few in
+    let some = misaligned_few rs in
+    let most = made_few (aligned_steps s ins rs) in
+    omega (arith, few, some, most, three)
+
+pub operands_own : (laws : HaveLaws) (infos : List NodeInfo) (options : Options) (out k : ℕ) (f : Form) (ins : List ℕ) (first : ℕ) (own : List ℕ → ℕ → List Step)
+    → CanCopy infos options k f first → length ins ≡ length (operands_of infos k f) → copies_of infos out k f ≡ filter is_misaligned (operands_of infos k f)
+    → ComeTo options.reserved (outline_of options.split_every infos k f) (info_at infos k)
+    (own (aligned_places (copying options first) ins (operands_of infos k f)) (first + length (all_made (aligned_steps (copying options first) ins (operands_of infos k f)))))
+    → AreOwn infos options out k f (behind_copies (copying options first) ins (operands_of infos k f) own)
+operands_own laws infos options out k f ins first own can long same h =
     let s = copying options first in
-    let rs = operands_of infos k (Form.Elementwise op args) in
-    let copies = aligned_steps (copying options first) ins (operands_of infos k (Form.Elementwise op args)) in
-    let need = own_need options.reserved options.split_every infos k (Form.Elementwise op args) in
-    let map = map_of infos op args (aligned_places (copying options first) ins (operands_of infos k (Form.Elementwise op args))) (first + length (all_made copies)) in
-    behind_own infos options out k (Form.Elementwise op args) first copies (only_step infos k map need) (let most = misaligned_few rs in let few = can.few in omega (arith, most, few))
-    (laws.operands.sizes (copying options first) ins rs can.operands long)
-    (only_computed infos options.reserved k (function_bytes (info_at infos k) (length args + own_instructions op) (arrays_in infos args)) need map kept refl refl)
-
-pub rechunk_own : (laws : HaveLaws) (infos : List NodeInfo) (options : Options) (out k : ℕ) (args : List Arg) (chunk : List ℕ) (ins : List ℕ) (first : ℕ)
-    → IsStaged (copying options first) (in_chunks (array_of infos args 0) (info_at infos k).chunk) → IsTyped infos k (Form.Rechunk args chunk)
-    → AreOwn infos options out k (Form.Rechunk args chunk) (steps_of infos options k (Form.Rechunk args chunk) ins first)
-rechunk_own laws infos options out k args chunk ins first staged typed =
-    let made : rechunked (in_chunks (array_of infos args 0) (info_at infos k).chunk) ≡ info_at infos k = λ j. record { dtype = sym typed.1 j; dims = sym typed.0 j; chunk = (info_at infos k).chunk } in
-    copies_own infos options out k (Form.Rechunk args chunk) laws first (slice_index ins 0) (in_chunks (array_of infos args 0) (info_at infos k).chunk) staged made refl refl refl refl
-
-pub input_own : (laws : HaveLaws) (infos : List NodeInfo) (options : Options) (out k : ℕ) (name : List ℕ) (ins : List ℕ) (first : ℕ) → (k == out) ≡ true
-    → IsStaged (copying options first) (in_chunks (info_at infos k) (info_at infos k).chunk)
-    → AreOwn infos options out k (Form.Input name) (steps_of infos options k (Form.Input name) ins first)
-input_own laws infos options out k name ins first stored staged =
-    copies_own infos options out k (Form.Input name) laws first (slice_index ins 0) (in_chunks (info_at infos k) (info_at infos k).chunk) staged refl
-    (ap (λ (b : Bool). if b then in_chunks (info_at infos k) (info_at infos k).chunk ∷ [] else []) stored) refl refl refl
-
-pub reduction_own : (laws : HaveLaws) (infos : List NodeInfo) (options : Options) (out k : ℕ) (kind : FoldKind) (args : List Arg) (axes : Option (List ℤ)) (keepdims : Bool) (ins : List ℕ) (first : ℕ) → HasRoom options first
-    → IsReduction (reduction_of infos k kind args axes ins) → AreOwn infos options out k (Form.Reduce kind args axes keepdims) (steps_of infos options k (Form.Reduce kind args axes keepdims) ins first)
-reduction_own laws infos options out k kind args axes keepdims ins first room reduced =
-    computed_own infos options out k (Form.Reduce kind args axes keepdims) (reduction_steps (setting options first) (reduction_of infos k kind args axes ins)) refl
-    (laws.reductions.sizes (setting options first) (reduction_of infos k kind args axes ins) (own_setting options first first room (omega arith)) reduced)
-
-pub search_own : (laws : HaveLaws) (infos : List NodeInfo) (options : Options) (out k : ℕ) (least : Bool) (args : List Arg) (axis : Option ℤ) (keepdims : Bool) (ins : List ℕ) (first : ℕ) → HasRoom options first
-    → IsSearch (search_of infos k least args axis ins) → AreOwn infos options out k (Form.ArgPlace least args axis keepdims) (steps_of infos options k (Form.ArgPlace least args axis keepdims) ins first)
-search_own laws infos options out k least args axis keepdims ins first room sought =
-    computed_own infos options out k (Form.ArgPlace least args axis keepdims) (search_steps (setting options first) (search_of infos k least args axis ins)) refl
-    (laws.searches.sizes (setting options first) (search_of infos k least args axis ins) (own_setting options first first room (omega arith)) sought)
-
-pub matmul_own : (laws : HaveLaws) (infos : List NodeInfo) (options : Options) (out k : ℕ) (args : List Arg) (ins : List ℕ) (first : ℕ) → HasRoom options first
-    → CanCopy infos options k (Form.Matmul args) first → length ins ≡ 2 → IsInfo (array_of infos args 0) → IsInfo (array_of infos args 1) → IsInfo (info_at infos k)
-    → typed_matmul (array_of infos args 0) (array_of infos args 1) ≡ Ok (info_at infos k)
-    → AreOwn infos options out k (Form.Matmul args) (steps_of infos options k (Form.Matmul args) ins first)
-matmul_own laws infos options out k args ins first room can long hl hr hm typed =
-    let rs = operands_of infos k (Form.Matmul args) in
-    let copies = aligned_steps (copying options first) ins (operands_of infos k (Form.Matmul args)) in
-    let read = aligned_places (copying options first) ins (operands_of infos k (Form.Matmul args)) in
-    let next = first + length (all_made copies) in
-    let c = laws.operands.sizes (copying options first) ins rs can.operands long in
-    let two = misaligned_few rs in
-    let few = made_few copies in
-    let most = c.few in
-    let s = setting options next in
-    let x = product_of infos k args read in
-    let kept = left_kept (array_of infos args 0) (array_of infos args 1) (info_at infos k) hl typed in
-    let product = product_typed (array_of infos args 0) (array_of infos args 1) (info_at infos k) (slice_index read 0) (slice_index read 1) hl hr hm typed in
-    let room_next : next ≤ first + 16 = omega (arith, two, few, most) in
-    behind_own infos options out k (Form.Matmul args) first copies (product_steps s x) (omega (arith, two)) c
-    (subst (λ (i : NodeInfo). ComeTo options.reserved (product_outline options.split_every (info_at infos k) i (chunk_bytes x.left_info) (chunk_bytes x.right_info)) (info_at infos k) (product_steps s x)) kept
-    (laws.products.sizes s x (own_setting options first next room room_next) product))
-
--- ---- prefix sums
-
-pub cumulative_own : (laws : HaveLaws) (infos : List NodeInfo) (options : Options) (out k : ℕ) (args : List Arg) (axis : Option ℤ) (ins : List ℕ) (first : ℕ) → HasRoom options first
-    → IsCumulative (cumulative_of infos k args axis ins) → AreOwn infos options out k (Form.CumulativeSum args axis) (steps_of infos options k (Form.CumulativeSum args axis) ins first)
-cumulative_own laws infos options out k args axis ins first room summed =
-    computed_own infos options out k (Form.CumulativeSum args axis) (cumulative_steps (setting options first) (cumulative_of infos k args axis ins)) refl
-    (laws.sums.sizes (setting options first) (cumulative_of infos k args axis ins) (own_setting options first first room (omega arith)) summed)
-
--- ---- groups by labels
-
--- those of groups by labels, which the form of node k tells of
-pub groups_own : (laws : HaveLaws) (infos : List NodeInfo) (options : Options) (out k : ℕ) (least : Bool) (args : List Arg) (axis : ℤ) (groups : ℕ) (ins : List ℕ) (first : ℕ) → HasRoom options first
-    → CanCopy infos options k (Form.GroupBy least args axis groups) first → length ins ≡ 2 → ((read : List ℕ) → IsGrouped (grouped_over (grouped_of infos k least args axis groups) read))
-    → AreOwn infos options out k (Form.GroupBy least args axis groups) (steps_of infos options k (Form.GroupBy least args axis groups) ins first)
-groups_own laws infos options out k least args axis groups ins first room can long grouped =
-    let rs = operands_of infos k (Form.GroupBy least args axis groups) in
-    let copies = aligned_steps (copying options first) ins (operands_of infos k (Form.GroupBy least args axis groups)) in
-    let read = aligned_places (copying options first) ins (operands_of infos k (Form.GroupBy least args axis groups)) in
-    let next = first + length (all_made copies) in
-    let c = laws.operands.sizes (copying options first) ins rs can.operands long in
-    let two = misaligned_few rs in
-    let few = made_few copies in
-    let most = c.few in
-    let s = setting options next in
-    let x = grouped_over (grouped_of infos k least args axis groups) read in
-    let room_next : next ≤ first + 16 = omega (arith, two, few, most) in
-    behind_own infos options out k (Form.GroupBy least args axis groups) first copies (grouped_steps s x) (omega (arith, two)) c
-    (laws.groups.sizes s x (own_setting options first next room room_next) (grouped read))
-
-pub viewed_own : (infos : List NodeInfo) (options : Options) (out k : ℕ) (f : Form) (ins : List ℕ) (first : ℕ) → is_view f ≡ true → IsInfo (info_at infos k) → AreOwn infos options out k f (steps_of infos options k f ins first)
-viewed_own infos options out k (Form.Input name) ins first view kept = cc
-viewed_own infos options out k (Form.Elementwise op args) ins first view kept = cc
-viewed_own infos options out k (Form.Rechunk args chunk) ins first view kept = cc
-viewed_own infos options out k (Form.Reduce kind args axes keepdims) ins first view kept = cc
-viewed_own infos options out k (Form.ArgPlace least args axis keepdims) ins first view kept = cc
-viewed_own infos options out k (Form.Matmul args) ins first view kept = cc
-viewed_own infos options out k (Form.CumulativeSum args axis) ins first view kept = cc
-viewed_own infos options out k (Form.GroupBy least args axis groups) ins first view kept = cc
-viewed_own infos options out k f ins first view kept =
-    computed_own infos options out k f (only_step infos k (view_op infos f ins first) (own_need options.reserved options.split_every infos k f)) refl
-    (only_computed infos options.reserved k (view_bytes (info_at infos k) (arrays_in infos (args_of f))) (own_need options.reserved options.split_every infos k f) (view_op infos f ins first) kept refl refl)
+    let rs = operands_of infos k f in
+    let some = misaligned_few rs in
+    let few = can.few in
+    let is = ap length same in
+    behind_own infos options out k f first (aligned_steps s ins rs) (own (aligned_places s ins rs) (first + length (all_made (aligned_steps s ins rs)))) (omega (arith, some, few, is))
+    (subst (λ (cs : List Rechunk). AreCopies (copying options first) (length cs) (sum_by (rechunk_tasks (max_mem options.allowed options.reserved)) cs) (sum_by (rechunk_cells (max_mem options.allowed options.reserved)) cs)
+    (aligned_steps (copying options first) ins (operands_of infos k f))) (sym same) (laws.operands.sizes s ins rs can.operands long)) h

@@ -20,7 +20,7 @@ use Rattle.cu_lower.specs.Parts.{Grown, is_given, made_layout, with_steps}
 use Rattle.cu_lower.specs.Premises.{IsLowerable}
 use Rattle.cu_lower.specs.declared.options.Options.{Options}
 use Rattle.cu_lower.proofs.Arguments.{Each, each_so, IsEarlierNode, live_arguments}
-use Rattle.cu_lower.proofs.FormKinds.{IsGivenInput, given_kind}
+use Rattle.cu_lower.proofs.GivenInputs.{IsGivenInput, given_kind}
 use Rattle.cu_lower.proofs.Growing.{steps_long}
 use Rattle.cu_lower.proofs.NodeSteps.{all_steps}
 use Rattle.cu_lower.proofs.Standing as standing

@@ -24,7 +24,7 @@ use Rattle.cu_lower.specs.Parts.{Grown, IsGrown, HasSteps, Make, array_places, i
 use Rattle.cu_lower.proofs.Growing as growing
 use Rattle.cu_lower.proofs.Growing.{Front, Located}
 use Rattle.cu_lower.proofs.InputNames.{input_placed}
-use Rattle.cu_lower.proofs.FormKinds.{IsGivenInput, given_kind, node_made, node_given}
+use Rattle.cu_lower.proofs.GivenInputs.{IsGivenInput, given_kind, node_made, node_given}
 
 -- the element behind a front
 pub seam : {A : Type 0} (xs rest fs : List A) (y d : A) (k : ℕ) → fs ≡ (xs ++ y ∷ []) ++ rest → k ≡ length xs → get_or fs k d ≡ y

@@ -9,7 +9,7 @@ use Rattle.std.proofs.lemmas.List.Elements.{All-head}
 use Rattle.cu_result.proofs.ResultSteps.{check_step_ok}
 use Rattle.cu_shape.specs.Index.{IsInside}
 use Rattle.cu_shape.proofs.Places.{inside-length}
-use Rattle.cu_form.specs.Form.{args_of, is_array, are_arrays}
+use Rattle.cu_form.specs.Form.{args_of, is_array, are_arrays, takes_args}
 use Rattle.cu_form.specs.declared.args.Arg.{Arg}
 use Rattle.cu_form.specs.declared.form.Form.{Form}
 use Rattle.cu_node.specs.Axes.{marked_of}
@@ -35,6 +35,7 @@ use Rattle.cu_lower_view.specs.Axes.{named_axis, is_turned, axes_that, shifts_al
 use Rattle.cu_lower_view.specs.Runs.{whole_run, index_runs, axes_taken}
 use Rattle.cu_lower_view.specs.Sources.{sources_of, shapes_of, source_shapes}
 use Rattle.cu_lower_view.specs.Typed.{IsTypedView, IsPull}
+use Rattle.cu_lower_view.specs.View.{pull_of}
 use Rattle.cu_lower.proofs.AxisIndices.{flipped_same, rolled_same, are_axes, permuted_same, concat_same, taken_from, taken_choice}
 use Rattle.cu_lower.proofs.EntryIndices.{read_by_entries, read_whole}
 
@@ -51,8 +52,24 @@ one_array (x ∷ y ∷ args) h =
     let few = leb-true (length (x ∷ y ∷ args)) 1 b.1 in
     absurd (omega (arith, few))
 
-pub all_arrays : (least most : ℕ) (args : List Arg) → are_arrays least most args ≡ true → list_all is_array args ≡ true
+all_arrays : (least most : ℕ) (args : List Arg) → are_arrays least most args ≡ true → list_all is_array args ≡ true
 all_arrays least most args h = (and_parts (nat_le least (length args) && nat_le (length args) most) (list_all is_array args) h).1
+
+-- what a form takes that has a pull
+pub view_arrays : (infos : List NodeInfo) (form : Form) (p : Pull) → takes_args form ≡ true → pull_of infos form ≡ Some p → list_all is_array (args_of form) ≡ true
+view_arrays infos (Form.Full shape dtype value chunk) p takes pull = refl
+view_arrays infos (Form.Arange start stop step dtype chunk) p takes pull = refl
+view_arrays infos (Form.Eye rows cols d dtype chunk) p takes pull = refl
+view_arrays infos (Form.Concat args axis) p takes pull = all_arrays 1 8 args takes
+view_arrays infos (Form.Stack args axis) p takes pull = all_arrays 1 8 args takes
+view_arrays infos (Form.Triangle lower args d) p takes pull = all_arrays 1 1 args takes
+view_arrays infos (Form.Index args items) p takes pull = all_arrays 1 1 args takes
+view_arrays infos (Form.PermuteDims args axes) p takes pull = all_arrays 1 1 args takes
+view_arrays infos (Form.Reshape args shape) p takes pull = all_arrays 1 1 args takes
+view_arrays infos (Form.Flip args axes) p takes pull = all_arrays 1 1 args takes
+view_arrays infos (Form.Roll args shifts axes) p takes pull = all_arrays 1 1 args takes
+view_arrays infos (Form.BroadcastTo args shape chunk) p takes pull = all_arrays 1 1 args takes
+view_arrays infos form p takes pull = cc
 
 -- ---- what typing and the choice of a pull tell
 

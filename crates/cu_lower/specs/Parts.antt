@@ -215,6 +215,12 @@ steps_of infos options k (Form.Rechunk args chunk) ins first = copy_steps (copyi
 steps_of infos options k (Form.Input name) ins first = copy_steps (copying options first) (slice_index ins 0) (in_chunks (info_at infos k) (info_at infos k).chunk)
 steps_of infos options k form ins first = only_step infos k (view_op infos form ins first) (own_need options.reserved options.split_every infos k form)
 
+-- an operation of this form computes something: a rechunk and an input are copies alone
+abbrev pub is_computed : Form → Test
+is_computed (Form.Rechunk args chunk) = false
+is_computed (Form.Input name) = false
+is_computed form = true
+
 -- Steps that make an array of which this is known: the last of them writes it, each array that they write has a grid, and they are few.
 pub record Make (i : NodeInfo) (ss : List Step) : Type 0 where
   pub ends : (rest : List NodeInfo) × (all_made ss ≡ rest ++ i ∷ [])

@@ -1,5 +1,5 @@
 -- What the plan of an expression takes for granted, and what it has in return (this project's own rule).
-use Rattle.std.specs.Prelude.{◌≡◌, ◌≢◌, ℕ, ◌+◌, ◌-◌, ◌<◌, ◌≤◌, ◌^◌, ℤ, pos, Bool, true, false, List, [], ◌∷◌, All, length, sum_by, slice_get, Some, None, Ok, unwrap_or}
+use Rattle.std.specs.Prelude.{◌≡◌, ◌≢◌, ℕ, ◌+◌, ◌-◌, ◌<◌, ◌≤◌, ◌^◌, ℤ, pos, true, false, List, [], ◌∷◌, All, length, sum_by, slice_get, Some, None, Ok, unwrap_or}
 use Rattle.cu_num.specs.declared.layout.Encoding.TheVariants.{Plain}
 use Rattle.cu_num.specs.declared.layout.Sep.TheVariants.{Slash}
 use Rattle.cu_shape.specs.Index.{IsInside}
@@ -32,7 +32,7 @@ use Rattle.cu_copy.specs.Copies.{max_mem}
 use Rattle.cu_lower_reduce.specs.Copies.{is_copy}
 use Rattle.cu_lower.specs.Inputs.{input_names, input_place}
 use Rattle.cu_lower.specs.Plan.{plan_of}
-use Rattle.cu_lower.specs.Parts.{made_layout}
+use Rattle.cu_lower.specs.Parts.{is_computed, made_layout}
 use Rattle.cu_lower.specs.declared.options.Options.{Options}
 
 -- an accepted expression, no live node of which needs more memory than is allowed; the plan keeps its limits, and a task merges 2 to 64
@@ -83,12 +83,6 @@ pub record IsOfNode (e : Expression) (infos : List NodeInfo) (options : Options)
   pub allowed : o.projected ≤ options.allowed
   pub copies : is_copy o.op ≡ true → copies_of infos e.out o.node node.form ≢ []
   pub need : is_copy o.op ≡ false → o.projected ≤ own_need options.reserved options.split_every infos o.node node.form
-
--- an operation of this form computes something: a rechunk and an input are copies alone
-abbrev pub is_computed : Form → Bool
-is_computed (Form.Rechunk args chunk) = false
-is_computed (Form.Input name) = false
-is_computed form = true
 
 -- node number k is live, and is neither a rechunk nor an input
 pub record IsComputedNode (e : Expression) (k : ℕ) (node : Node) : Type 0 where

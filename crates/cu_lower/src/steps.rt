@@ -3,8 +3,8 @@
 ghost use Rattle.std.specs.Prelude.{◌≡◌, ◌<◌, ◌≤◌, ◌+◌, ◌^◌, ◌++◌, ◌∷◌, [], true, All, IfOk, IsOk, length, map, slice_index};
 ghost use Rattle.cu_copy.specs.Copies.{in_chunks};
 ghost use Rattle.cu_expr.specs.Typing.{argument_of};
-ghost use Rattle.cu_form.specs.Form.{element_takes, takes_args};
-ghost use Rattle.cu_lower_reduce.specs.Copies.{aligned_places, aligned_steps, copy_steps, AreOperands, IsCopySetting, IsStaged};
+ghost use Rattle.cu_form.specs.Form.{element_takes};
+ghost use Rattle.cu_lower_reduce.specs.Copies.{aligned_places, aligned_steps, copy_steps, IsCopySetting, IsStaged};
 ghost use Rattle.cu_lower_reduce.specs.Grouped.{grouped_steps, IsGrouped};
 ghost use Rattle.cu_lower_reduce.specs.Products.{product_steps, IsProduct};
 ghost use Rattle.cu_lower_reduce.specs.Steps.{all_made};
@@ -13,7 +13,7 @@ ghost use Rattle.cu_typing.specs.Types.{shared_type};
 ghost use Rattle.cu_node.specs.Info.{IsInfo, info_at};
 ghost use Rattle.cu_need.specs.Need.{own_need};
 ghost use Rattle.cu_need.specs.View.{is_view};
-ghost use Rattle.cu_lower.specs.Parts.{AreOptions, CanGrow, only_step, setting, map_of, product_of, grouped_over, view_op, steps_of};
+ghost use Rattle.cu_lower.specs.Parts.{AreOptions, CanGrow, copying, only_step, setting, map_of, product_of, grouped_over, view_op, steps_of};
 
 use crate::aligned::{Aligned, align, copy_steps, copying};
 use crate::options::Options;
@@ -44,6 +44,7 @@ fn only_step(infos: &[NodeInfo], node: u32, op: Op, need: u64) -> Step
 }
 
 /// The step of node number `node`, which is a view of these arrays.
+#[tactic(auto, using(crate::proofs::NodeLaws::view_step))]
 fn view_steps(
     alloc: Global,
     infos: &[NodeInfo],
@@ -57,7 +58,7 @@ fn view_steps(
     requires infos { All IsInfo infos.now }
     requires options { AreOptions options.now }
     requires form { CanGrow infos.now options.now node form.now }
-    ensures { IfOk result (λ steps. steps.items ≡ only_step infos.now node (view_op infos.now form.now sources.items first) (own_need options.now.reserved options.now.split_every infos.now node form.now)) }
+    ensures { IfOk result (λ steps. steps.items ≡ steps_of infos.now options.now node form.now sources.items first) }
 {
     let pull = view_op(infos, form, sources, first);
     let need = own_need(options.reserved, options.split_every, infos, node, form);
@@ -67,24 +68,26 @@ fn view_steps(
 }
 
 /// The operands of node number `node`, whose arrays are `ins`, in the chunks that it wants of them.
+/// The first array that copies of them make has number `first`.
 fn align_operands(
     alloc: Global,
     infos: &[NodeInfo],
-    s: &CopySetting,
+    options: &Options,
     node: u32,
     form: &Form,
     ins: &[u32],
+    first: u32,
 ) -> Result<Aligned, AllocError>
-    requires setting { IsCopySetting s.now }
-    requires room { s.now.first < 2 ^ 30 }
-    requires takes { takes_args form.now ≡ true }
-    requires operands { AreOperands s.now (operands_of infos.now node form.now) }
-    ensures steps { IfOk result (λ a. a.steps.items ≡ aligned_steps s.now ins.now (operands_of infos.now node form.now)) }
-    ensures places { IfOk result (λ a. a.places.items ≡ aligned_places s.now ins.now (operands_of infos.now node form.now)) }
-    ensures next { IfOk result (λ a. a.next ≡ s.now.first + length (all_made (aligned_steps s.now ins.now (operands_of infos.now node form.now)))) }
-    ensures few { IfOk result (λ a. a.next ≤ s.now.first + 6) }
+    requires options { AreOptions options.now }
+    requires first { first < 2 ^ 30 }
+    requires form { CanGrow infos.now options.now node form.now }
+    ensures steps { IfOk result (λ a. a.steps.items ≡ aligned_steps (copying options.now first) ins.now (operands_of infos.now node form.now)) }
+    ensures places { IfOk result (λ a. a.places.items ≡ aligned_places (copying options.now first) ins.now (operands_of infos.now node form.now)) }
+    ensures next { IfOk result (λ a. a.next ≡ first + length (all_made (aligned_steps (copying options.now first) ins.now (operands_of infos.now node form.now)))) }
+    ensures few { IfOk result (λ a. a.next ≤ first + 6) }
 {
-    align(alloc, s, ins, operands_of(infos, node, form).as_slice())
+    let s = copying(options, first);
+    align(alloc, &s, ins, operands_of(infos, node, form).as_slice())
 }
 
 /// The steps of node number `node`, a function of arguments whose arrays are aligned.
@@ -185,11 +188,10 @@ pub(crate) fn steps_of(
     requires form { CanGrow infos.now options.now node form.now }
     ensures { IfOk result (λ steps. steps.items ≡ steps_of infos.now options.now node form.now sources.items first) }
 {
-    let copies = copying(options, first);
     let ins = sources.as_slice();
     match form {
         Form::Elementwise { op, args } => {
-            let aligned = align_operands(alloc, infos, &copies, node, form, ins)?;
+            let aligned = align_operands(alloc, infos, options, node, form, ins, first)?;
             let need = own_need(options.reserved, options.split_every, infos, node, form);
             map_steps(aligned, infos, node, *op, args.as_slice(), need)
         }
@@ -212,7 +214,7 @@ pub(crate) fn steps_of(
             search_steps(alloc, &setting(options, first), &x)
         }
         Form::Matmul { args } => {
-            let aligned = align_operands(alloc, infos, &copies, node, form, ins)?;
+            let aligned = align_operands(alloc, infos, options, node, form, ins, first)?;
             matmul_steps(aligned, infos, options, node, args.as_slice())
         }
         Form::CumulativeSum { args, axis } => {
@@ -226,15 +228,22 @@ pub(crate) fn steps_of(
             groups,
         } => {
             let x = grouped_of(infos, node, *least, args.as_slice(), *axis, *groups);
-            let aligned = align_operands(alloc, infos, &copies, node, form, ins)?;
+            let aligned = align_operands(alloc, infos, options, node, form, ins, first)?;
             group_steps(aligned, options, &x)
         }
         Form::Rechunk { args, .. } => {
             let array = array_of(infos, args.as_slice(), 0);
-            rechunk_steps(alloc, infos, &copies, node, array, ins)
+            rechunk_steps(alloc, infos, &copying(options, first), node, array, ins)
         }
         Form::Input { .. } => {
-            rechunk_steps(alloc, infos, &copies, node, info_at(infos, node), ins)
+            rechunk_steps(
+                alloc,
+                infos,
+                &copying(options, first),
+                node,
+                info_at(infos, node),
+                ins,
+            )
         }
         view => view_steps(alloc, infos, options, node, view, sources, first),
     }
