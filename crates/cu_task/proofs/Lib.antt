@@ -35,6 +35,11 @@ pub mod RowReads
 pub mod ScanTask
 pub mod SearchTask
 pub mod Serving
+pub mod SlabPlaces
+pub mod SlabReads
+pub mod SlabSteps
+pub mod SlabTask
+pub mod SlabValues
 pub mod Standing
 pub mod StraightReads
 pub mod StripBytes

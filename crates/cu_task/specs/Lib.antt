@@ -8,6 +8,7 @@ pub mod Inside
 pub mod Merges
 pub mod OfTask
 pub mod Serving
+pub mod Slabs
 pub mod Straight
 pub mod Strips
 pub mod Task

@@ -22,6 +22,8 @@ mod rows;
 mod run;
 mod scans;
 mod searches;
+mod slab_jobs;
+mod slabs;
 mod straight;
 mod strips;
 mod views;

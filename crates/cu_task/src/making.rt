@@ -4,21 +4,26 @@
 //! What is made stands at the end of the memory, and what stands before it is free until it is
 //! made. So the regions that a task reads are made from the last one to the first, each before the
 //! one that was made before it.
-ghost use Rattle.std.specs.Prelude.{◌+◌, ◌<◌, ◌≤◌, length, IfErr, OnOk};
+ghost use Rattle.std.specs.Prelude.{◌≡◌, ◌+◌, ◌<◌, ◌≤◌, length, IfErr, OnOk};
 ghost use Rattle.cu_store.specs.Held.{Contents};
 ghost use Rattle.cu_store.specs.Chunks.{Adds, StaysOpen};
 ghost use Rattle.cu_store.specs.Steps.{NoChange, Steps};
 ghost use Rattle.cu_op.specs.TaskView.{task_op, walk_at};
 ghost use Rattle.cu_region.specs.Calls.{Made};
+ghost use Rattle.cu_region.specs.Writing.{AreElements};
 ghost use Rattle.cu_task.specs.Inputs.{last_bytes, walk_room, room_of_walks, HasRegions};
 ghost use Rattle.cu_task.specs.OfTask.{calls_for_walk, calls_for_walks, calls_to_read};
 ghost use Rattle.cu_task.specs.OfTask.{tally_for_walk, tally_for_walks, tally_to_read};
 ghost use Rattle.cu_task.specs.OfTask.{held_inputs, kernel_words, walks_from, work_bytes, HasWalk};
 ghost use Rattle.cu_task.specs.OfTask.{HoldsFor, IsOwnFault, IsSure, MayRead};
+ghost use Rattle.cu_task.specs.Slabs.{front_room, other_place, task_of_chunk, FitsSlabs};
+ghost use Rattle.cu_task.specs.Slabs.{IsOnlyChunk, IsSlabJob, MapsMade, ShowsInput};
 ghost use Rattle.cu_task.specs.Strips.{FoldsMap};
 ghost use Rattle.cu_task.specs.Task.{IsComputing};
+ghost use Rattle.cu_task.specs.ViewJobs.{source_of_chunk};
 ghost use Rattle.cu_task.specs.TaskRoom.{output_in, room_bytes, found_values_in};
 ghost use Rattle.cu_task.specs.TaskRoom.{AreAllOfTheirTypes, HasMadeAll};
+ghost use Rattle.cu_view.specs.Planned.{IsViewOperation};
 
 use crate::compute::compute;
 use crate::copies::copy_region;
@@ -28,8 +33,12 @@ use crate::merges::{merge_by_parts, part_merge};
 use crate::pulls::pull_result;
 use crate::results::{result_bytes, value_bytes};
 use crate::room::kept_bytes;
+use crate::slab_jobs::{
+    MadeInput, SlabJob, fetch_shown, fits_slabs, only_chunk, slab_sizes, viewed_input,
+};
+use crate::slabs::make_slabs;
 use crate::strips::{fold_map, folded_map};
-use crate::views::{ViewJob, shapes_of};
+use crate::views::{SourceChunk, ViewJob, front_block, front_bytes, shapes_of};
 use cu_op::{Op, PlanTask};
 use cu_store::{Chunks, TaskFault};
 
@@ -83,7 +92,10 @@ pub(crate) fn make_result<C: Chunks>(
             Some(map) => fold_by_strips::<C>(store, access, task, &map, room, words),
             None => match part_merge(task) {
                 Some(merge) => merge_by_parts::<C>(store, access, task, &merge, room),
-                None => compute_result::<C>(store, access, task, room, words),
+                None => match viewed_input(task) {
+                    Some(input) => map_shown::<C>(store, access, task, &input, room, words),
+                    None => compute_result::<C>(store, access, task, room, words),
+                },
             },
         },
     }
@@ -170,6 +182,200 @@ fn fold_by_strips<C: Chunks>(
     let (_, inputs) = reads.split_at_mut(before_inputs);
     fold_map(task, map, inputs, strip, output, words);
     Ok(())
+}
+
+/// The same of a map of which a view makes an input where it is read: slab by slab where that is
+/// possible, and else from whole regions.
+#[cycle(make)]
+fn map_shown<C: Chunks>(
+    store: &C::Store,
+    access: &mut C::Access,
+    task: &PlanTask<'_>,
+    input: &MadeInput<'_>,
+    room: &mut [u8],
+    words: &mut [u64],
+) -> Result<(), TaskFault>
+    requires belongs { C.belongs store.now access.old }
+    requires may { MayRead task.now (C.may_get store.now access.old) }
+    requires input { MapsMade task.now input.now.place input.now.maker }
+    requires view { IsViewOperation (task_op input.now.maker) }
+    requires room { room_bytes task.now ≤ length room.old }
+    requires words { kernel_words task.now ≤ length words.old }
+    ensures open { StaysOpen (C.belongs store.now access.new) (C.may_get store.now access.old)
+        (C.may_get store.now access.new) }
+    ensures made { (held : Contents) → HoldsFor task.now held (C.shown access.old)
+        → OnOk result (HasMadeAll task.now (held_inputs task.now held)
+        (found_values_in task.now room.new) (output_in task.now room.new)) }
+    ensures elements { OnOk result (AreAllOfTheirTypes task.now (found_values_in task.now room.new)
+        (output_in task.now room.new)) }
+    ensures step { Steps NoChange 0 (calls_to_read task.now) (C.shown access.old)
+        (C.shown access.new) }
+    ensures all { IsSure task.now → OnOk result (Made (calls_to_read task.now)
+        (C.shown access.old).calls (C.shown access.new).calls) }
+    ensures called { IsSure task.now → OnOk result (Adds (tally_to_read (C.weight store.now) task.now)
+        (C.tally access.old) (C.tally access.new)) }
+    ensures cause { IfErr result (IsOwnFault task.now (C.shown access.old) (C.shown access.new)) }
+{
+    let Op::Pull { pull, ins, .. } = input.maker.operation() else {
+        unreachable!()
+    };
+    let ins = ins.as_slice();
+    let shapes = shapes_of(&input.maker, ins);
+    let job = ViewJob {
+        task: &input.maker,
+        pull,
+        ins,
+        shapes: shapes.as_slice(),
+    };
+    match only_chunk(&job) {
+        Some(only) => {
+            let chunk = SourceChunk {
+                job: &job,
+                source: 0,
+                coord: only.coord,
+                needed: only.needed,
+            };
+            map_from_chunk::<C>(store, access, task, input.place, &chunk, room, words)
+        }
+        None => compute_result::<C>(store, access, task, room, words),
+    }
+}
+
+/// The same, where all that the view needs of its source is in one chunk.
+#[cycle(make)]
+fn map_from_chunk<C: Chunks>(
+    store: &C::Store,
+    access: &mut C::Access,
+    task: &PlanTask<'_>,
+    place: usize,
+    chunk: &SourceChunk<'_>,
+    room: &mut [u8],
+    words: &mut [u64],
+) -> Result<(), TaskFault>
+    requires belongs { C.belongs store.now access.old }
+    requires may { MayRead task.now (C.may_get store.now access.old) }
+    requires input { MapsMade task.now place (task_of_chunk chunk.now) }
+    requires only { IsOnlyChunk chunk.now }
+    requires room { room_bytes task.now ≤ length room.old }
+    requires words { kernel_words task.now ≤ length words.old }
+    ensures open { StaysOpen (C.belongs store.now access.new) (C.may_get store.now access.old)
+        (C.may_get store.now access.new) }
+    ensures made { (held : Contents) → HoldsFor task.now held (C.shown access.old)
+        → OnOk result (HasMadeAll task.now (held_inputs task.now held)
+        (found_values_in task.now room.new) (output_in task.now room.new)) }
+    ensures elements { OnOk result (AreAllOfTheirTypes task.now (found_values_in task.now room.new)
+        (output_in task.now room.new)) }
+    ensures step { Steps NoChange 0 (calls_to_read task.now) (C.shown access.old)
+        (C.shown access.new) }
+    ensures all { IsSure task.now → OnOk result (Made (calls_to_read task.now)
+        (C.shown access.old).calls (C.shown access.new).calls) }
+    ensures called { IsSure task.now → OnOk result (Adds (tally_to_read (C.weight store.now) task.now)
+        (C.tally access.old) (C.tally access.new)) }
+    ensures cause { IfErr result (IsOwnFault task.now (C.shown access.old) (C.shown access.new)) }
+{
+    match slab_sizes(task, place) {
+        Some(sizes) => {
+            let job = SlabJob {
+                chunk: &*chunk,
+                front: front_block(chunk),
+                place,
+                sizes,
+            };
+            if fits_slabs(task, &job, room.len()) {
+                map_by_slabs::<C>(store, access, task, &job, room, words)
+            } else {
+                compute_result::<C>(store, access, task, room, words)
+            }
+        }
+        None => compute_result::<C>(store, access, task, room, words),
+    }
+}
+
+/// The same of a map whose result is made slab by slab.
+#[cycle(make)]
+fn map_by_slabs<C: Chunks>(
+    store: &C::Store,
+    access: &mut C::Access,
+    task: &PlanTask<'_>,
+    job: &SlabJob<'_>,
+    room: &mut [u8],
+    words: &mut [u64],
+) -> Result<(), TaskFault>
+    requires belongs { C.belongs store.now access.old }
+    requires may { MayRead task.now (C.may_get store.now access.old) }
+    requires job { IsSlabJob task.now job.now }
+    requires fits { FitsSlabs task.now job.now (length room.old) }
+    requires room { room_bytes task.now ≤ length room.old }
+    requires words { kernel_words task.now ≤ length words.old }
+    ensures open { StaysOpen (C.belongs store.now access.new) (C.may_get store.now access.old)
+        (C.may_get store.now access.new) }
+    ensures made { (held : Contents) → HoldsFor task.now held (C.shown access.old)
+        → OnOk result (HasMadeAll task.now (held_inputs task.now held)
+        (found_values_in task.now room.new) (output_in task.now room.new)) }
+    ensures elements { OnOk result (AreAllOfTheirTypes task.now (found_values_in task.now room.new)
+        (output_in task.now room.new)) }
+    ensures step { Steps NoChange 0 (calls_to_read task.now) (C.shown access.old)
+        (C.shown access.new) }
+    ensures all { IsSure task.now → OnOk result (Made (calls_to_read task.now)
+        (C.shown access.old).calls (C.shown access.new).calls) }
+    ensures called { IsSure task.now → OnOk result (Adds (tally_to_read (C.weight store.now) task.now)
+        (C.tally access.old) (C.tally access.new)) }
+    ensures cause { IfErr result (IsOwnFault task.now (C.shown access.old) (C.shown access.new)) }
+{
+    let (front, memory) = room.split_at_mut(front_bytes(job.chunk, &job.front));
+    let before = memory.len() - job.sizes.gap;
+    let (reads, _) = memory.split_at_mut(before);
+    read_shown::<C>(store, access, task, job, front, reads, words)?;
+    make_slabs(task, job, front, memory, words);
+    Ok(())
+}
+
+/// Reads the chunk of the view's source into `front`, and the other input's region, or makes it, at
+/// the end of `room`: the last input first.
+#[cycle(make)]
+fn read_shown<C: Chunks>(
+    store: &C::Store,
+    access: &mut C::Access,
+    task: &PlanTask<'_>,
+    job: &SlabJob<'_>,
+    front: &mut [u8],
+    room: &mut [u8],
+    words: &mut [u64],
+) -> Result<(), TaskFault>
+    requires belongs { C.belongs store.now access.old }
+    requires may { MayRead task.now (C.may_get store.now access.old) }
+    requires job { IsSlabJob task.now job.now }
+    requires front { length front.old ≡ front_room job.now }
+    requires room { work_bytes task.now + walk_room task.now.plan.arrays
+        (walk_at task.now (other_place job.now.place)) ≤ length room.old }
+    requires words { kernel_words task.now ≤ length words.old }
+    ensures open { StaysOpen (C.belongs store.now access.new) (C.may_get store.now access.old)
+        (C.may_get store.now access.new) }
+    ensures shown { (held : Contents) → HoldsFor task.now held (C.shown access.old)
+        → OnOk result (ShowsInput task.now job.now held front.new) }
+    ensures other { (held : Contents) → HoldsFor task.now held (C.shown access.old)
+        → OnOk result (HasWalk task.now (held_inputs task.now held)
+        (walk_at task.now (other_place job.now.place))
+        (last_bytes (walk_room task.now.plan.arrays (walk_at task.now (other_place job.now.place)))
+        room.new)) }
+    ensures elements { OnOk result
+        (AreElements (source_of_chunk job.now.chunk.now).layout.dtype front.new) }
+    ensures step { Steps NoChange 0 (calls_to_read task.now) (C.shown access.old)
+        (C.shown access.new) }
+    ensures all { IsSure task.now → OnOk result (Made (calls_to_read task.now)
+        (C.shown access.old).calls (C.shown access.new).calls) }
+    ensures called { IsSure task.now → OnOk result (Adds (tally_to_read (C.weight store.now) task.now)
+        (C.tally access.old) (C.tally access.new)) }
+    ensures cause { IfErr result (IsOwnFault task.now (C.shown access.old) (C.shown access.new)) }
+{
+    let other = 1 - job.place;
+    if other > job.place {
+        read_input::<C>(store, access, task, other, room, words)?;
+        fetch_shown::<C>(store, access, task, job, front)
+    } else {
+        fetch_shown::<C>(store, access, task, job, front)?;
+        read_input::<C>(store, access, task, other, room, words)
+    }
 }
 
 /// Reads or makes the regions from which a task computes, from the one at a place on, one behind

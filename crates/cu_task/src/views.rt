@@ -203,7 +203,7 @@ fn read_source<C: Chunks>(
 }
 
 /// A region of a source with all that is needed of it, where anything is.
-fn needed_hull(job: &ViewJob<'_>, source: u32) -> Option<Region>
+pub(crate) fn needed_hull(job: &ViewJob<'_>, source: u32) -> Option<Region>
     requires job { IsViewJob job.now }
     requires source { source < length job.now.ins.now }
     ensures { HasHull (view_task_of job.now) source result }
@@ -305,7 +305,7 @@ fn read_piece<C: Chunks>(
 }
 
 /// Whether an element of the region comes from a chunk of a source; of a reshaped source it may be that none does.
-fn is_needed(chunk: &SourceChunk<'_>) -> bool
+pub(crate) fn is_needed(chunk: &SourceChunk<'_>) -> bool
     requires { IsSourceChunk chunk.now }
     ensures needed { is_needed_chunk chunk.now ≡ true → IsTrue result }
     ensures only { is_exact chunk.now.job.now.pull.now ≡ true → IsTrue result
@@ -352,7 +352,7 @@ fn chunk_block(chunk: &SourceChunk<'_>) -> Block
 
 /// The elements of a chunk of a source up to the last row, along its first axis, of which something
 /// is needed. Row-major they are the chunk's first, so that a read from its beginning has them.
-fn front_block(chunk: &SourceChunk<'_>) -> Block
+pub(crate) fn front_block(chunk: &SourceChunk<'_>) -> Block
     requires { IsSourceChunk chunk.now }
     ensures { IsFront chunk.now result }
 {
@@ -544,7 +544,7 @@ fn take_front<C: Chunks>(
 }
 
 /// Reads the front of one chunk of a source, with all that is needed of it.
-fn fetch_front<C: Chunks>(
+pub(crate) fn fetch_front<C: Chunks>(
     store: &C::Store,
     access: &mut C::Access,
     chunk: &SourceChunk<'_>,

@@ -1,5 +1,6 @@
 use Rattle.std.proofs.Common.{◌≡◌, ◌≤◌, ◌<◌, ◌+◌, ◌++◌, ℕ, List, [], Contains, length, drop, refl, sym, ap, append_assoc, ◌∙◌, subst, arith, rules}
 use Rattle.std.specs.Prelude.{OnOk}
+use Rattle.std.proofs.lemmas.List.{length-append}
 use Rattle.std.proofs.lemmas.List.Elements.{All-contains_itself}
 use Rattle.std.proofs.lemmas.List.Sums.{sum_by-append, sum_by-cons}
 use Rattle.std.proofs.lemmas.Result.{err_from_is_err_and}
@@ -21,7 +22,8 @@ use Rattle.cu_region.specs.Writing.{AreElements}
 use Rattle.cu_store.specs.Chunks.{Adds}
 use Rattle.cu_task.specs.Calls.{chunk_calls, chunk_tally}
 use Rattle.cu_task.specs.Inputs.{last_bytes, room_of_walks, walk_room, HasRegions, IsPullOf, IsWalkKey}
-use Rattle.cu_task.specs.OfTask.{calls_for_walk, calls_for_walks, cell_weight, found_bytes, held_inputs, made_bytes, tally_for_walk, tally_for_walks, walks_from, weight_of_walk, AreOfItsType, HasMade, HasWalk}
+use Rattle.cu_task.specs.Slabs.{other_place}
+use Rattle.cu_task.specs.OfTask.{calls_for_walk, calls_for_walks, calls_to_read, cell_weight, found_bytes, held_inputs, made_bytes, tally_for_walk, tally_for_walks, tally_to_read, walks_from, weight_of_walk, AreOfItsType, HasMade, HasWalk}
 use Rattle.cu_task.specs.Task.{HasResult, IsComputing, IsCopy, IsTaskKey}
 use Rattle.cu_task.specs.TaskRoom.{output_in, found_values_in}
 use Rattle.cu_task.proofs.CopyTask.{copies_whole}
@@ -31,8 +33,10 @@ use Rattle.cu_task.proofs.JobViews.{job_is_view}
 use Rattle.cu_task.proofs.MadeParts.{alike_made, at_end, later_fault, next_walk}
 use Rattle.cu_task.proofs.PullTask.{of_pull}
 use Rattle.cu_task.proofs.PartialFolds.{fold_computes, fold_stores}
+use Rattle.cu_task.proofs.SlabReads.{on_ok_always}
+use Rattle.cu_task.proofs.SlabTask.{map_stores, placed_calls, placed_rooms, placed_tally, slabs_elements, slabs_made}
 use Rattle.cu_task.proofs.StripTask.{folded_calls, folded_made, folded_tally, map_computes}
-use Rattle.cu_task.proofs.Tails.{last_left, last_part, last_with, length-last_bytes, part_before_last}
+use Rattle.cu_task.proofs.Tails.{last_left, last_of_part, last_part, last_with, length-last_bytes, part_before_last}
 use Rattle.cu_task.proofs.TaskKinds.{computing, none_stored}
 use Rattle.cu_task.proofs.TaskRegions.{scratch_read}
 use Rattle.cu_task.proofs.TaskRooms.{kept_computing}
@@ -826,3 +830,364 @@ read_input-returns-in-Some-clause-called g t c sure =
 pub read_input-returns-in-Some-clause-cause : goal.read_input-returns-in-Some-clause-cause
 read_input-returns-in-Some-clause-cause g t c =
     on_err_more c.make_result.result (c.in-Some.ensures.made.faults (g.C.Chunks.shown c.args.access.now) (g.C.Chunks.shown c.make_result.new.access)) c.make_result.ensures.cause
+
+-- ---- map_shown
+
+pub map_shown-shapes_of-shapes-requires-clause-within : goal.map_shown-shapes_of-shapes-requires-clause-within
+map_shown-shapes_of-shapes-requires-clause-within g t c =
+    let maker = c.args.input.now.maker in
+    let is : IsPullOf (task_op c.args.input.now.maker) c.in-Pull.pull c.as_slice-ins.result.now = subst (λ (o : Op). IsPullOf o c.in-Pull.pull c.as_slice-ins.result.now) (sym (sym c.operation.ensures.operation ∙ c.in-Pull.is)) (refl, c.as_slice-ins.ensures.value) in
+    (of_pull maker.plan maker.op (task_op maker) maker.number c.in-Pull.pull c.as_slice-ins.result.now (fit_of maker.plan c.operation.ensures.sound maker.op maker.operation) is).reads
+
+pub map_shown-only_chunk-requires : goal.map_shown-only_chunk-requires
+map_shown-only_chunk-requires g t c =
+    let is : IsPullOf (task_op c.args.input.now.maker) c.in-Pull.pull c.as_slice-ins.result.now = subst (λ (o : Op). IsPullOf o c.in-Pull.pull c.as_slice-ins.result.now) (sym (sym c.operation.ensures.operation ∙ c.in-Pull.is)) (refl, c.as_slice-ins.ensures.value) in
+    let few : length c.as_slice-ins.result.now ≤ 8 = search rules in
+    job_is_view _ c.operation.ensures.sound is few (search rules)
+
+pub map_shown-compute_result-requires : goal.map_shown-compute_result-requires
+map_shown-compute_result-requires g t c κs sub = (
+  omega (arith, c.decreases),
+  (search rules, (search rules, (search rules, (c.requires.belongs, (c.requires.may, (map_computes (task_op c.args.task.now) c.requires.input.maps.map, (c.requires.room, c.requires.words))))))),
+)
+
+pub map_shown-map_from_chunk-requires : goal.map_shown-map_from_chunk-requires
+map_shown-map_from_chunk-requires g t c κs sub =
+    let only = c.in-Some.ensures in (
+      omega (arith, c.decreases),
+      (
+        search rules,
+        (
+          search rules,
+          (
+            search rules,
+            (
+              c.requires.belongs,
+              (
+                c.requires.may,
+                (
+                  c.requires.input,
+                  (
+                    record {
+                      of_source = record { job = only.view; source = (let one = only.one in omega (arith, one)); coordinate = only.coordinate; hull = only.hull };
+                      one = only.one;
+                      exact = only.exact;
+                      needed = only.needs;
+                      only = only.only;
+                    },
+                    (c.requires.room, c.requires.words),
+                  ),
+                ),
+              ),
+            ),
+          ),
+        ),
+      ),
+    )
+
+-- ---- map_from_chunk
+
+pub map_from_chunk-compute_result-requires : goal.map_from_chunk-compute_result-requires
+map_from_chunk-compute_result-requires g t c κs sub = (
+  omega (arith, c.decreases),
+  (search rules, (search rules, (search rules, (c.requires.belongs, (c.requires.may, (map_computes (task_op c.args.task.now) c.requires.input.maps.map, (c.requires.room, c.requires.words))))))),
+)
+
+-- ---- map_by_slabs
+
+pub map_by_slabs-front_bytes-requires-clause-chunk : goal.map_by_slabs-front_bytes-requires-clause-chunk
+map_by_slabs-front_bytes-requires-clause-chunk g t c = c.requires.job.only.of_source
+
+pub map_by_slabs-front_bytes-requires-clause-front : goal.map_by_slabs-front_bytes-requires-clause-front
+map_by_slabs-front_bytes-requires-clause-front g t c = c.requires.job.front
+
+pub map_by_slabs-split_at_mut-front-requires : goal.map_by_slabs-split_at_mut-front-requires
+map_by_slabs-split_at_mut-front-requires g t c =
+    let own = c.front_bytes.ensures.bytes in
+    let fits = c.requires.fits.strip in
+    omega (arith, own, fits)
+
+pub map_by_slabs-overflow_sub-before : goal.map_by_slabs-overflow_sub-before
+map_by_slabs-overflow_sub-before g t c =
+    let own = c.front_bytes.ensures.bytes in
+    let fits = c.requires.fits.strip in
+    let back = c.split_at_mut-front.ensures.back_len in
+    omega (arith, own, fits, back)
+
+pub map_by_slabs-read_shown-requires : goal.map_by_slabs-read_shown-requires
+map_by_slabs-read_shown-requires g t c κs sub =
+    let own = c.front_bytes.ensures.bytes in
+    let chunk = c.requires.fits.chunk in
+    let fits = c.requires.fits.strip in
+    let room = c.requires.room in
+    let rooms = placed_rooms c.args.task.now c.args.job.now.place c.requires.job.maps.maps c.requires.job.maps.listed in
+    let front = c.split_at_mut-front.ensures.front_len in
+    let back = c.split_at_mut-front.ensures.back_len in
+    let reads = c.split_at_mut-reads.ensures.front_len in (
+      omega (arith, c.decreases),
+      (
+        search rules,
+        (
+          search rules,
+          (
+            search rules,
+            (
+              c.requires.belongs,
+              (c.requires.may, (c.requires.job, (omega (arith, own, front), (omega (arith, own, chunk, fits, room, rooms, back, reads), c.requires.words)))),
+            ),
+          ),
+        ),
+      ),
+    )
+
+pub map_by_slabs-make_slabs-requires-clause-front : goal.map_by_slabs-make_slabs-requires-clause-front
+map_by_slabs-make_slabs-requires-clause-front g t c =
+    let own = c.front_bytes.ensures.bytes in
+    let front = c.split_at_mut-front.ensures.front_len in
+    let long = c.read_shown.auto.front in
+    omega (arith, own, front, long)
+
+pub map_by_slabs-make_slabs-requires-clause-memory : goal.map_by_slabs-make_slabs-requires-clause-memory
+map_by_slabs-make_slabs-requires-clause-memory g t c =
+    let own = c.front_bytes.ensures.bytes in
+    let fits = c.requires.fits.strip in
+    let back = c.split_at_mut-front.ensures.back_len in
+    let reads = c.split_at_mut-reads.ensures.front_len in
+    let gap = c.split_at_mut-reads.ensures.back_len in
+    let long = c.read_shown.auto.room in
+    let all = length-append c.read_shown.new.room c.split_at_mut-reads.result.1.now in
+    omega (arith, own, fits, back, reads, gap, long, all)
+
+pub map_by_slabs-make_slabs-requires-clause-words : goal.map_by_slabs-make_slabs-requires-clause-words
+map_by_slabs-make_slabs-requires-clause-words g t c =
+    let own = steps_of_own c.args.task.now.plan c.args.task.now.op in
+    let most = c.requires.words in
+    let long = c.read_shown.auto.words in
+    omega (arith, own, most, long)
+
+pub map_by_slabs-returns-clause-made : goal.map_by_slabs-returns-clause-made
+map_by_slabs-returns-clause-made g t c held still =
+    let task = c.args.task.now in
+    let own = c.front_bytes.ensures.bytes in
+    let fits = c.requires.fits.strip in
+    let back = c.split_at_mut-front.ensures.back_len in
+    let reads = c.split_at_mut-reads.ensures.front_len in
+    let gap = c.split_at_mut-reads.ensures.back_len in
+    let long = c.read_shown.auto.room in
+    let all = length-append c.read_shown.new.room c.split_at_mut-reads.result.1.now in
+    let new = c.make_slabs.auto.memory in
+    let tail = last_of_part c.read_shown.new.front c.make_slabs.new.memory (made_bytes c.args.task.now) (omega (arith, own, fits, back, reads, gap, long, all, new)) in
+    record {
+      output = subst (HasMade task (held_inputs task held)) (sym tail)
+          (slabs_made task c.args.job.now c.requires.job c.read_shown.new.front (c.read_shown.new.room ++ c.split_at_mut-reads.result.1.now) c.make_slabs.new.memory (omega (arith, own, fits, back, reads, gap, long, all, new)) c.make_slabs.ensures
+          held c.read_shown.new.room c.split_at_mut-reads.result.1.now refl (omega (arith, own, fits, back, reads, gap)) (omega (arith, own, fits, back, reads, long)) (c.in_ok-read_shown.ensures.shown held still) (c.in_ok-read_shown.ensures.other held still));
+      values = λ array is. absurd (none_stored array (sym (map_stores (task_op task) c.requires.job.maps.maps.map) ∙ is));
+    }
+
+pub map_by_slabs-returns-clause-elements : goal.map_by_slabs-returns-clause-elements
+map_by_slabs-returns-clause-elements g t c =
+    let task = c.args.task.now in
+    let own = c.front_bytes.ensures.bytes in
+    let fits = c.requires.fits.strip in
+    let back = c.split_at_mut-front.ensures.back_len in
+    let reads = c.split_at_mut-reads.ensures.front_len in
+    let gap = c.split_at_mut-reads.ensures.back_len in
+    let long = c.read_shown.auto.room in
+    let all = length-append c.read_shown.new.room c.split_at_mut-reads.result.1.now in
+    let new = c.make_slabs.auto.memory in
+    let tail = last_of_part c.read_shown.new.front c.make_slabs.new.memory (made_bytes c.args.task.now) (omega (arith, own, fits, back, reads, gap, long, all, new)) in
+    record {
+      output = subst (AreOfItsType task) (sym tail)
+          (slabs_elements task c.args.job.now c.requires.job c.read_shown.new.front (c.read_shown.new.room ++ c.split_at_mut-reads.result.1.now) c.make_slabs.new.memory (omega (arith, own, fits, back, reads, gap, long, all, new)) c.make_slabs.ensures);
+      values = λ array is. absurd (none_stored array (sym (map_stores (task_op task) c.requires.job.maps.maps.map) ∙ is));
+    }
+
+pub map_by_slabs-returns-clause-all : goal.map_by_slabs-returns-clause-all
+map_by_slabs-returns-clause-all g t c sure = c.in_ok-read_shown.ensures.all sure
+
+pub map_by_slabs-returns-clause-called : goal.map_by_slabs-returns-clause-called
+map_by_slabs-returns-clause-called g t c sure = c.in_ok-read_shown.ensures.called sure
+
+pub map_by_slabs-returns-in_err-read_shown-clause-made : goal.map_by_slabs-returns-in_err-read_shown-clause-made
+map_by_slabs-returns-in_err-read_shown-clause-made g t c held still = let p = err_from_is_err_and c.from_residual.result c.from_residual.ensures.1 in rw p.1 tt
+
+pub map_by_slabs-returns-in_err-read_shown-clause-elements : goal.map_by_slabs-returns-in_err-read_shown-clause-elements
+map_by_slabs-returns-in_err-read_shown-clause-elements g t c = let p = err_from_is_err_and c.from_residual.result c.from_residual.ensures.1 in rw p.1 tt
+
+pub map_by_slabs-returns-in_err-read_shown-clause-all : goal.map_by_slabs-returns-in_err-read_shown-clause-all
+map_by_slabs-returns-in_err-read_shown-clause-all g t c sure = let p = err_from_is_err_and c.from_residual.result c.from_residual.ensures.1 in rw p.1 tt
+
+pub map_by_slabs-returns-in_err-read_shown-clause-called : goal.map_by_slabs-returns-in_err-read_shown-clause-called
+map_by_slabs-returns-in_err-read_shown-clause-called g t c sure = let p = err_from_is_err_and c.from_residual.result c.from_residual.ensures.1 in rw p.1 tt
+
+pub map_by_slabs-returns-in_err-read_shown-clause-cause : goal.map_by_slabs-returns-in_err-read_shown-clause-cause
+map_by_slabs-returns-in_err-read_shown-clause-cause g t c = let p = err_from_is_err_and c.from_residual.result c.from_residual.ensures.1 in rw (p.1, p.2) c.in_err-read_shown.ensures.cause
+
+-- ---- read_shown
+
+pub read_shown-returns-in_ok-read_input-clause-step : goal.read_shown-returns-in_ok-read_input-clause-step
+read_shown-returns-in_ok-read_input-clause-step g t c =
+    let calls = placed_calls c.args.task.now c.args.job.now.place c.requires.job.maps.maps c.requires.job.maps.listed in
+    steps_wider (λ key value none. none) (omega arith) (omega (arith, calls)) (steps_then c.read_input.ensures.step c.fetch_shown.ensures.step)
+
+pub read_shown-returns-in_ok-read_input-clause-all : goal.read_shown-returns-in_ok-read_input-clause-all
+read_shown-returns-in_ok-read_input-clause-all g t c sure =
+    let calls = placed_calls c.args.task.now c.args.job.now.place c.requires.job.maps.maps c.requires.job.maps.listed in
+    let total : calls_to_read c.args.task.now ≡ calls_for_walk c.args.task.now (walk_at c.args.task.now (other_place c.args.job.now.place)) + calls_for_walk c.args.task.now (walk_at c.args.task.now c.args.job.now.place) = omega (arith, calls) in
+    on_ok_then c.fetch_shown.result
+    (λ made. subst (λ (n : ℕ). Made n (g.C.Chunks.shown c.args.access.now).calls (g.C.Chunks.shown c.fetch_shown.new.access).calls) (sym total)
+    (all_made (g.C.Chunks.shown c.args.access.now).calls (g.C.Chunks.shown c.read_input.new.access).calls (g.C.Chunks.shown c.fetch_shown.new.access).calls (calls_for_walk c.args.task.now (walk_at c.args.task.now (other_place c.args.job.now.place))) (calls_for_walk c.args.task.now (walk_at c.args.task.now c.args.job.now.place)) (c.in_ok-read_input.ensures.all sure) made))
+    (c.fetch_shown.ensures.all sure)
+
+pub read_shown-returns-in_ok-read_input-clause-called : goal.read_shown-returns-in_ok-read_input-clause-called
+read_shown-returns-in_ok-read_input-clause-called g t c sure =
+    let tally = placed_tally (g.C.Chunks.weight c.args.store.now) c.args.task.now c.args.job.now.place c.requires.job.maps.maps c.requires.job.maps.listed in
+    let total : tally_to_read (g.C.Chunks.weight c.args.store.now) c.args.task.now ≡ tally_for_walk (g.C.Chunks.weight c.args.store.now) c.args.task.now (walk_at c.args.task.now (other_place c.args.job.now.place)) + tally_for_walk (g.C.Chunks.weight c.args.store.now) c.args.task.now (walk_at c.args.task.now c.args.job.now.place) = omega (arith, tally) in
+    on_ok_then c.fetch_shown.result
+    (λ called. subst (λ (n : ℕ). Adds n (g.C.Chunks.tally c.args.access.now) (g.C.Chunks.tally c.fetch_shown.new.access)) (sym total)
+    (all_added (g.C.Chunks.tally c.args.access.now) (g.C.Chunks.tally c.read_input.new.access) (g.C.Chunks.tally c.fetch_shown.new.access) (tally_for_walk (g.C.Chunks.weight c.args.store.now) c.args.task.now (walk_at c.args.task.now (other_place c.args.job.now.place))) (tally_for_walk (g.C.Chunks.weight c.args.store.now) c.args.task.now (walk_at c.args.task.now c.args.job.now.place)) (c.in_ok-read_input.ensures.called sure) called))
+    (c.fetch_shown.ensures.called sure)
+
+pub read_shown-returns-in_ok-read_input-clause-shown : goal.read_shown-returns-in_ok-read_input-clause-shown
+read_shown-returns-in_ok-read_input-clause-shown g t c held still =
+    let later = still_after (IsTaskKey c.args.task.now.plan c.args.task.now.op c.args.task.now.number) held (g.C.Chunks.shown c.args.access.now) (g.C.Chunks.shown c.read_input.new.access) 0 (calls_for_walk c.args.task.now (walk_at c.args.task.now (other_place c.args.job.now.place))) still c.read_input.ensures.step in
+    c.fetch_shown.ensures.read held later
+
+pub read_shown-returns-in_ok-read_input-clause-other : goal.read_shown-returns-in_ok-read_input-clause-other
+read_shown-returns-in_ok-read_input-clause-other g t c held still =
+    on_ok_always c.fetch_shown.result (c.in_ok-read_input.ensures.read held still)
+
+pub read_shown-returns-in_ok-read_input-clause-open : goal.read_shown-returns-in_ok-read_input-clause-open
+read_shown-returns-in_ok-read_input-clause-open g t c =
+    open_then c.read_input.ensures.open c.fetch_shown.ensures.open
+
+pub read_shown-returns-in_ok-read_input-clause-cause : goal.read_shown-returns-in_ok-read_input-clause-cause
+read_shown-returns-in_ok-read_input-clause-cause g t c =
+    on_err_more c.fetch_shown.result
+    (λ e fault. later_fault (g.C.Chunks.shown c.args.access.now) (g.C.Chunks.shown c.read_input.new.access) (g.C.Chunks.shown c.fetch_shown.new.access) c.args.task.now.plan c.args.task.now.op c.args.task.now.number e c.read_input.ensures.step.count fault)
+    c.fetch_shown.ensures.cause
+
+pub read_shown-returns-in_err-read_input-clause-shown : goal.read_shown-returns-in_err-read_input-clause-shown
+read_shown-returns-in_err-read_input-clause-shown g t c held still =
+    let p = err_from_is_err_and c.from_residual.result c.from_residual.ensures.1 in rw p.1 tt
+
+pub read_shown-returns-in_err-read_input-clause-other : goal.read_shown-returns-in_err-read_input-clause-other
+read_shown-returns-in_err-read_input-clause-other g t c held still =
+    let p = err_from_is_err_and c.from_residual.result c.from_residual.ensures.1 in rw p.1 tt
+
+pub read_shown-returns-in_err-read_input-clause-elements : goal.read_shown-returns-in_err-read_input-clause-elements
+read_shown-returns-in_err-read_input-clause-elements g t c =
+    let p = err_from_is_err_and c.from_residual.result c.from_residual.ensures.1 in rw p.1 tt
+
+pub read_shown-returns-in_err-read_input-clause-all : goal.read_shown-returns-in_err-read_input-clause-all
+read_shown-returns-in_err-read_input-clause-all g t c sure =
+    let p = err_from_is_err_and c.from_residual.result c.from_residual.ensures.1 in rw p.1 tt
+
+pub read_shown-returns-in_err-read_input-clause-called : goal.read_shown-returns-in_err-read_input-clause-called
+read_shown-returns-in_err-read_input-clause-called g t c sure =
+    let p = err_from_is_err_and c.from_residual.result c.from_residual.ensures.1 in rw p.1 tt
+
+pub read_shown-returns-in_err-read_input-clause-step : goal.read_shown-returns-in_err-read_input-clause-step
+read_shown-returns-in_err-read_input-clause-step g t c =
+    let calls = placed_calls c.args.task.now c.args.job.now.place c.requires.job.maps.maps c.requires.job.maps.listed in
+    steps_wider (λ key value none. none) (omega arith) (omega (arith, calls)) c.read_input.ensures.step
+
+pub read_shown-returns-in_err-read_input-clause-open : goal.read_shown-returns-in_err-read_input-clause-open
+read_shown-returns-in_err-read_input-clause-open g t c =
+    c.read_input.ensures.open
+
+pub read_shown-returns-in_err-read_input-clause-cause : goal.read_shown-returns-in_err-read_input-clause-cause
+read_shown-returns-in_err-read_input-clause-cause g t c =
+    let p = err_from_is_err_and c.from_residual.result c.from_residual.ensures.1 in rw (p.1, p.2) c.in_err-read_input.ensures.cause
+
+pub read_shown-returns-in_ok-fetch_shown-clause-step : goal.read_shown-returns-in_ok-fetch_shown-clause-step
+read_shown-returns-in_ok-fetch_shown-clause-step g t c =
+    let calls = placed_calls c.args.task.now c.args.job.now.place c.requires.job.maps.maps c.requires.job.maps.listed in
+    steps_wider (λ key value none. none) (omega arith) (omega (arith, calls)) (steps_then c.fetch_shown-else-other-job.ensures.step c.read_input-else-other-job.ensures.step)
+
+pub read_shown-returns-in_ok-fetch_shown-clause-all : goal.read_shown-returns-in_ok-fetch_shown-clause-all
+read_shown-returns-in_ok-fetch_shown-clause-all g t c sure =
+    let calls = placed_calls c.args.task.now c.args.job.now.place c.requires.job.maps.maps c.requires.job.maps.listed in
+    let total : calls_to_read c.args.task.now ≡ calls_for_walk c.args.task.now (walk_at c.args.task.now c.args.job.now.place) + calls_for_walk c.args.task.now (walk_at c.args.task.now (other_place c.args.job.now.place)) = omega (arith, calls) in
+    on_ok_then c.read_input-else-other-job.result
+    (λ made. subst (λ (n : ℕ). Made n (g.C.Chunks.shown c.args.access.now).calls (g.C.Chunks.shown c.read_input-else-other-job.new.access).calls) (sym total)
+    (all_made (g.C.Chunks.shown c.args.access.now).calls (g.C.Chunks.shown c.fetch_shown-else-other-job.new.access).calls (g.C.Chunks.shown c.read_input-else-other-job.new.access).calls (calls_for_walk c.args.task.now (walk_at c.args.task.now c.args.job.now.place)) (calls_for_walk c.args.task.now (walk_at c.args.task.now (other_place c.args.job.now.place))) (c.in_ok-fetch_shown.ensures.all sure) made))
+    (c.read_input-else-other-job.ensures.all sure)
+
+pub read_shown-returns-in_ok-fetch_shown-clause-called : goal.read_shown-returns-in_ok-fetch_shown-clause-called
+read_shown-returns-in_ok-fetch_shown-clause-called g t c sure =
+    let tally = placed_tally (g.C.Chunks.weight c.args.store.now) c.args.task.now c.args.job.now.place c.requires.job.maps.maps c.requires.job.maps.listed in
+    let total : tally_to_read (g.C.Chunks.weight c.args.store.now) c.args.task.now ≡ tally_for_walk (g.C.Chunks.weight c.args.store.now) c.args.task.now (walk_at c.args.task.now c.args.job.now.place) + tally_for_walk (g.C.Chunks.weight c.args.store.now) c.args.task.now (walk_at c.args.task.now (other_place c.args.job.now.place)) = omega (arith, tally) in
+    on_ok_then c.read_input-else-other-job.result
+    (λ called. subst (λ (n : ℕ). Adds n (g.C.Chunks.tally c.args.access.now) (g.C.Chunks.tally c.read_input-else-other-job.new.access)) (sym total)
+    (all_added (g.C.Chunks.tally c.args.access.now) (g.C.Chunks.tally c.fetch_shown-else-other-job.new.access) (g.C.Chunks.tally c.read_input-else-other-job.new.access) (tally_for_walk (g.C.Chunks.weight c.args.store.now) c.args.task.now (walk_at c.args.task.now c.args.job.now.place)) (tally_for_walk (g.C.Chunks.weight c.args.store.now) c.args.task.now (walk_at c.args.task.now (other_place c.args.job.now.place))) (c.in_ok-fetch_shown.ensures.called sure) called))
+    (c.read_input-else-other-job.ensures.called sure)
+
+pub read_shown-returns-in_ok-fetch_shown-clause-other : goal.read_shown-returns-in_ok-fetch_shown-clause-other
+read_shown-returns-in_ok-fetch_shown-clause-other g t c held still =
+    let later = still_after (IsTaskKey c.args.task.now.plan c.args.task.now.op c.args.task.now.number) held (g.C.Chunks.shown c.args.access.now) (g.C.Chunks.shown c.fetch_shown-else-other-job.new.access) 0 (calls_for_walk c.args.task.now (walk_at c.args.task.now c.args.job.now.place)) still c.fetch_shown-else-other-job.ensures.step in
+    c.read_input-else-other-job.ensures.read held later
+
+pub read_shown-returns-in_ok-fetch_shown-clause-shown : goal.read_shown-returns-in_ok-fetch_shown-clause-shown
+read_shown-returns-in_ok-fetch_shown-clause-shown g t c held still =
+    on_ok_always c.read_input-else-other-job.result (c.in_ok-fetch_shown.ensures.read held still)
+
+pub read_shown-returns-in_ok-fetch_shown-clause-elements : goal.read_shown-returns-in_ok-fetch_shown-clause-elements
+read_shown-returns-in_ok-fetch_shown-clause-elements g t c =
+    on_ok_always c.read_input-else-other-job.result c.in_ok-fetch_shown.ensures.elements
+
+pub read_shown-returns-in_ok-fetch_shown-clause-open : goal.read_shown-returns-in_ok-fetch_shown-clause-open
+read_shown-returns-in_ok-fetch_shown-clause-open g t c =
+    open_then c.fetch_shown-else-other-job.ensures.open c.read_input-else-other-job.ensures.open
+
+pub read_shown-returns-in_ok-fetch_shown-clause-cause : goal.read_shown-returns-in_ok-fetch_shown-clause-cause
+read_shown-returns-in_ok-fetch_shown-clause-cause g t c =
+    on_err_more c.read_input-else-other-job.result
+    (λ e fault. later_fault (g.C.Chunks.shown c.args.access.now) (g.C.Chunks.shown c.fetch_shown-else-other-job.new.access) (g.C.Chunks.shown c.read_input-else-other-job.new.access) c.args.task.now.plan c.args.task.now.op c.args.task.now.number e c.fetch_shown-else-other-job.ensures.step.count fault)
+    c.read_input-else-other-job.ensures.cause
+
+pub read_shown-returns-in_err-fetch_shown-clause-shown : goal.read_shown-returns-in_err-fetch_shown-clause-shown
+read_shown-returns-in_err-fetch_shown-clause-shown g t c held still =
+    let p = err_from_is_err_and c.from_residual-in_err-fetch_shown.result c.from_residual-in_err-fetch_shown.ensures.1 in rw p.1 tt
+
+pub read_shown-returns-in_err-fetch_shown-clause-other : goal.read_shown-returns-in_err-fetch_shown-clause-other
+read_shown-returns-in_err-fetch_shown-clause-other g t c held still =
+    let p = err_from_is_err_and c.from_residual-in_err-fetch_shown.result c.from_residual-in_err-fetch_shown.ensures.1 in rw p.1 tt
+
+pub read_shown-returns-in_err-fetch_shown-clause-elements : goal.read_shown-returns-in_err-fetch_shown-clause-elements
+read_shown-returns-in_err-fetch_shown-clause-elements g t c =
+    let p = err_from_is_err_and c.from_residual-in_err-fetch_shown.result c.from_residual-in_err-fetch_shown.ensures.1 in rw p.1 tt
+
+pub read_shown-returns-in_err-fetch_shown-clause-all : goal.read_shown-returns-in_err-fetch_shown-clause-all
+read_shown-returns-in_err-fetch_shown-clause-all g t c sure =
+    let p = err_from_is_err_and c.from_residual-in_err-fetch_shown.result c.from_residual-in_err-fetch_shown.ensures.1 in rw p.1 tt
+
+pub read_shown-returns-in_err-fetch_shown-clause-called : goal.read_shown-returns-in_err-fetch_shown-clause-called
+read_shown-returns-in_err-fetch_shown-clause-called g t c sure =
+    let p = err_from_is_err_and c.from_residual-in_err-fetch_shown.result c.from_residual-in_err-fetch_shown.ensures.1 in rw p.1 tt
+
+pub read_shown-returns-in_err-fetch_shown-clause-step : goal.read_shown-returns-in_err-fetch_shown-clause-step
+read_shown-returns-in_err-fetch_shown-clause-step g t c =
+    let calls = placed_calls c.args.task.now c.args.job.now.place c.requires.job.maps.maps c.requires.job.maps.listed in
+    steps_wider (λ key value none. none) (omega arith) (omega (arith, calls)) c.fetch_shown-else-other-job.ensures.step
+
+pub read_shown-returns-in_err-fetch_shown-clause-open : goal.read_shown-returns-in_err-fetch_shown-clause-open
+read_shown-returns-in_err-fetch_shown-clause-open g t c =
+    c.fetch_shown-else-other-job.ensures.open
+
+pub read_shown-returns-in_err-fetch_shown-clause-cause : goal.read_shown-returns-in_err-fetch_shown-clause-cause
+read_shown-returns-in_err-fetch_shown-clause-cause g t c =
+    let p = err_from_is_err_and c.from_residual-in_err-fetch_shown.result c.from_residual-in_err-fetch_shown.ensures.1 in rw (p.1, p.2) c.in_err-fetch_shown.ensures.cause
+
+pub read_shown-read_input-requires : goal.read_shown-read_input-requires
+read_shown-read_input-requires g t c κs sub =
+    let two = c.requires.job.maps.maps.two in let listed = c.requires.job.maps.listed in (
+      omega (arith, c.decreases),
+      (search rules, (search rules, (search rules, (c.requires.belongs, (c.requires.may, (omega (arith, two), (c.requires.room, c.requires.words))))))),
+    )
+
+pub read_shown-fetch_shown-requires-clause-belongs : goal.read_shown-fetch_shown-requires-clause-belongs
+read_shown-fetch_shown-requires-clause-belongs g t c = c.read_input.ensures.open.belongs
+
+pub read_shown-fetch_shown-requires-clause-may : goal.read_shown-fetch_shown-requires-clause-may
+read_shown-fetch_shown-requires-clause-may g t c key here = c.read_input.ensures.open.gets key (c.requires.may key here)
