@@ -28,6 +28,7 @@ from test_calls import *  # noqa: F403
 from test_hostile import *  # noqa: F403
 from test_loops import *  # noqa: F403
 import folder as folder_commands
+import form_files
 import transcripts
 import word_cases
 from zarr_store import TYPES, Layout, item_bytes
@@ -286,6 +287,45 @@ class Archive(InFolder):
     def test_the_transcripts_have_the_same(self):
         copied = self.copied()
         self.assertEqual((list(transcripts.TOOLS), list(transcripts.RULES)), (copied["tools"], copied["compare"]))
+
+
+class FormFiles(InFolder):
+    """Files in which a form of an expression stands."""
+
+    def put_crates(self, **files):
+        put(f"{self.top}/crates/cu_form/src/form.rt", b"""/// What a node is.
+pub enum Form {
+    /// a stored array
+    Input {
+        name: IdText,
+    },
+    Flip {
+        axes: Items<i64>,
+    },
+    Matmul,
+}
+""")
+        for path, text in files.items():
+            put(f"{self.top}/crates/{path}", text.encode())
+
+    def test_each_file_that_names_a_form_counts_once(self):
+        self.put_crates(**{
+            "cu_read/src/view.rt": "Form::Flip { axes }\nForm::Flip { axes }\n// Form::Matmul\n",
+            "cu_read/specs/View.antt": "use Rattle.cu_form.specs.declared.form.Form.TheVariants.{Flip, Input}\n",
+            "cu_mean/proofs/Kept.antt": "kept (Form.Matmul) = tt\n-- and Form.Flip\n",
+            "cu_mean/proofs/Examples.antt": "flipped = Form.Flip []\n",
+            "cu_mean/src/other.rt": "Pull::Flip\nForm::Flipped\n",
+            "test_rows/src/lib.rt": "Form::Flip\n"})
+        declared = "cu_form/src/form.rt"
+        self.assertEqual(form_files.form_files(self.top), {
+            "Input": [declared, "cu_read/specs/View.antt"],
+            "Flip": [declared, "cu_read/src/view.rt", "cu_read/specs/View.antt"],
+            "Matmul": [declared, "cu_mean/proofs/Kept.antt"]})
+
+    def test_each_form_stands_in_few_files(self):
+        found = form_files.form_files()
+        self.assertEqual(len(found), 20)
+        self.assertEqual([form for form, paths in found.items() if len(paths) > form_files.MOST and form not in form_files.NOT_ADDED], [])
 
 
 class Help(unittest.TestCase):
