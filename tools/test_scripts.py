@@ -28,8 +28,8 @@ from test_calls import *  # noqa: F403
 from test_hostile import *  # noqa: F403
 from test_loops import *  # noqa: F403
 import folder as folder_commands
-import form_files
 import transcripts
+import variant_files
 import word_cases
 from zarr_store import TYPES, Layout, item_bytes
 
@@ -289,8 +289,8 @@ class Archive(InFolder):
         self.assertEqual((list(transcripts.TOOLS), list(transcripts.RULES)), (copied["tools"], copied["compare"]))
 
 
-class FormFiles(InFolder):
-    """Files in which a form of an expression stands."""
+class VariantFiles(InFolder):
+    """Files in which a form of an expression stands, or a kind of operation."""
 
     def put_crates(self, **files):
         put(f"{self.top}/crates/cu_form/src/form.rt", b"""/// What a node is.
@@ -305,6 +305,11 @@ pub enum Form {
     Matmul,
 }
 """)
+        put(f"{self.top}/crates/cu_op/src/operation.rt", b"""pub enum Op {
+    Map { out: u32 },
+    Flip,
+}
+""")
         for path, text in files.items():
             put(f"{self.top}/crates/{path}", text.encode())
 
@@ -317,15 +322,27 @@ pub enum Form {
             "cu_mean/src/other.rt": "Pull::Flip\nForm::Flipped\n",
             "test_rows/src/lib.rt": "Form::Flip\n"})
         declared = "cu_form/src/form.rt"
-        self.assertEqual(form_files.form_files(self.top), {
+        self.assertEqual(variant_files.files_of(variant_files.FORMS, self.top), {
             "Input": [declared, "cu_read/specs/View.antt"],
             "Flip": [declared, "cu_read/src/view.rt", "cu_read/specs/View.antt"],
             "Matmul": [declared, "cu_mean/proofs/Kept.antt"]})
 
-    def test_each_form_stands_in_few_files(self):
-        found = form_files.form_files()
-        self.assertEqual(len(found), 20)
-        self.assertEqual([form for form, paths in found.items() if len(paths) > form_files.MOST and form not in form_files.NOT_ADDED], [])
+    def test_a_kind_is_told_from_a_form_of_the_same_name(self):
+        self.put_crates(**{
+            "cu_task/src/compute.rt": "Op::Map { out } => Op::map_of(out)\n",
+            "cu_task/proofs/Rooms.antt": "use Rattle.cu_op.specs.declared.operation.Op.TheVariants.{Map, Flip}\n",
+            "cu_view/proofs/Views.antt": "use Rattle.cu_form.specs.declared.form.Form.TheVariants.{Flip}\n",
+            "cu_fuse/src/join.rt": "Op::map_of(kernel)\n"})
+        declared = "cu_op/src/operation.rt"
+        self.assertEqual(variant_files.files_of(variant_files.KINDS, self.top), {
+            "Map": [declared, "cu_task/src/compute.rt", "cu_task/proofs/Rooms.antt"],
+            "Flip": [declared, "cu_task/proofs/Rooms.antt"]})
+
+    def test_each_stands_in_few_files(self):
+        for counted, count in ((variant_files.FORMS, 20), (variant_files.KINDS, 11)):
+            found = variant_files.files_of(counted)
+            self.assertEqual(len(found), count)
+            self.assertEqual(variant_files.in_too_many(counted, found), [])
 
 
 class Help(unittest.TestCase):

@@ -30,6 +30,18 @@ const COLUMN_BYTES: u64 = 256;
 /// The bytes of a tile, which is a part of the first cache.
 const TILE_BYTES: usize = 16384;
 
+/// The most bytes of a column of a tile of a large plane.
+const LARGE_COLUMN_BYTES: u64 = 4096;
+
+/// The bytes of a tile of a large plane, which is a part of the second cache.
+const LARGE_TILE_BYTES: usize = 262144;
+
+/// A plane is large from so many rows on, whose columns are as long as a tile can have.
+const LARGE_ROWS: u64 = 512;
+
+/// So many rows of the target are written at a time.
+const GROUP: u64 = 16;
+
 /// A block of so many rows and columns that are neighbours is copied without a tile.
 const BLOCK: u64 = 32;
 
@@ -56,6 +68,13 @@ impl Held {
             rows: [0; TILE_BYTES],
         }
     }
+}
+
+/// A tile of a large plane, which goes the same way.
+#[derive(Drop)]
+struct LargeHeld {
+    /// The rows of the source, each of as many elements as a tile can have.
+    rows: [u8; LARGE_TILE_BYTES],
 }
 
 /// Two axes of a copy, with the places of their first index.
@@ -114,6 +133,8 @@ fn copy_sized<const N: usize>(
         copy_streams::<N>(order, plane, source, target);
     } else if plane.inner.count < FEW || is_near(N as u64, plane) {
         copy_lines::<N>(order, plane, source, target);
+    } else if is_large(N as u64, plane) {
+        copy_bands::<N>(order, plane, source, target);
     } else {
         copy_stripes::<N>(order, plane, source, target, held);
     }
@@ -137,6 +158,14 @@ fn is_near(size: u64, plane: Plane) -> bool {
         && plane.inner.count <= BLOCK
         && far(plane.inner.from).saturating_mul(size) <= NEAR
         && far(plane.outer.to).saturating_mul(size) <= NEAR
+}
+
+/// Whether the plane is so large that its tiles are too, of elements that are moved as fast as the
+/// caches take them.
+fn is_large(size: u64, plane: Plane) -> bool {
+    size >= 4
+        && plane.outer.count >= LARGE_ROWS
+        && plane.inner.count.saturating_mul(size) >= LARGE_COLUMN_BYTES
 }
 
 /// A plane of short rows: by parts of these where the elements of a column stand together in the
@@ -323,9 +352,61 @@ fn copy_tiles<const N: usize>(
     while at < plane.inner.count {
         let count = most.min(plane.inner.count - at);
         let tile = inner_block(plane, at, count);
-        copy_tile::<N>(order, tile, source, target, held);
+        copy_tile::<N>(order, tile, source, target, &mut held.rows);
         at += count;
     }
+}
+
+/// A large turned plane: bands of its rows, each by tiles as long as the band is wide. Then few rows
+/// of the target are written at a time, and each for long, as the processor foresees it.
+#[inline(never)]
+fn copy_bands<const N: usize>(order: Endian, plane: Plane, source: &[u8], target: &mut [u8])
+    requires can { CanCopy N (plane_axes plane) plane.start source.now (length target.old) }
+    requires rows { 0 < plane.outer.count }
+    ensures { IsStridedCopy N order (plane_axes plane) plane.start source.now target.old target.new }
+{
+    let mut held = LargeHeld {
+        rows: [0; LARGE_TILE_BYTES],
+    };
+    let most = large_column_length(N as u64);
+    let mut at = 0;
+    while at < plane.inner.count {
+        let count = most.min(plane.inner.count - at);
+        let band = inner_block(plane, at, count);
+        copy_band::<N>(order, band, source, target, &mut held);
+        at += count;
+    }
+}
+
+/// One band, tile by tile.
+fn copy_band<const N: usize>(
+    order: Endian,
+    plane: Plane,
+    source: &[u8],
+    target: &mut [u8],
+    held: &mut LargeHeld,
+)
+    requires can { CanCopy N (plane_axes plane) plane.start source.now (length target.old) }
+    requires some { 0 < plane.inner.count }
+    requires few { plane.inner.count * N ≤ 4096 }
+    ensures { IsStridedCopy N order (plane_axes plane) plane.start source.now target.old target.new }
+{
+    let mut at = 0;
+    while at < plane.outer.count {
+        let count = SIDE.min(plane.outer.count - at);
+        let tile = outer_block(plane, at, count);
+        copy_tile::<N>(order, tile, source, target, &mut held.rows);
+        at += count;
+    }
+}
+
+/// How many elements of `size` bytes a column of a tile of a large plane has at most.
+fn large_column_length(size: u64) -> u64
+    requires { IsSize size }
+    ensures some { 0 < result }
+    ensures few { result * size ≤ 4096 }
+{
+    LARGE_COLUMN_BYTES / size
 }
 
 /// How many elements of `size` bytes a column of a tile has at most.
@@ -346,13 +427,13 @@ fn copy_tile<const N: usize>(
     plane: Plane,
     source: &[u8],
     target: &mut [u8],
-    held: &mut Held,
+    rows: &mut [u8],
 )
     requires can { CanCopy N (plane_axes plane) plane.start source.now (length target.old) }
     requires rows { 0 < plane.outer.count }
     requires some { 0 < plane.inner.count }
     requires few_rows { plane.outer.count ≤ 64 }
-    requires few { plane.inner.count * N ≤ 256 }
+    requires room { plane.inner.count * N * 64 ≤ length rows.old }
     ensures { IsStridedCopy N order (plane_axes plane) plane.start source.now target.old target.new }
 {
     let (outer, inner) = (plane.outer, plane.inner);
@@ -372,7 +453,7 @@ fn copy_tile<const N: usize>(
             to: 0,
         },
     };
-    copy_tile_rows::<N>(Endian::Little, into, source, &mut held.rows);
+    copy_tile_rows::<N>(Endian::Little, into, source, rows);
     let out = Plane {
         outer: Axis {
             count: outer.count,
@@ -389,7 +470,40 @@ fn copy_tile<const N: usize>(
             to: plane.start.to,
         },
     };
-    copy_tile_columns::<N>(order, out, &held.rows, target);
+    copy_groups::<N>(order, out, rows, target);
+}
+
+/// The columns of a tile, so many at a time as are foreseen.
+#[inline(always)]
+fn copy_groups<const N: usize>(order: Endian, plane: Plane, source: &[u8], target: &mut [u8])
+    requires can { CanCopy N (plane_axes plane) plane.start source.now (length target.old) }
+    requires some { 0 < plane.inner.count }
+    ensures { IsStridedCopy N order (plane_axes plane) plane.start source.now target.old target.new }
+{
+    let mut at = 0;
+    while at < plane.outer.count {
+        let count = GROUP.min(plane.outer.count - at);
+        let group = outer_block(plane, at, count);
+        copy_group::<N>(order, group, source, target);
+        at += count;
+    }
+}
+
+/// A group of columns, by parts that are known in their loop.
+#[inline(always)]
+fn copy_group<const N: usize>(order: Endian, plane: Plane, source: &[u8], target: &mut [u8])
+    requires can { CanCopy N (plane_axes plane) plane.start source.now (length target.old) }
+    requires rows { 0 < plane.outer.count }
+    ensures { IsStridedCopy N order (plane_axes plane) plane.start source.now target.old target.new }
+{
+    let most = column_length(N as u64);
+    let mut at = 0;
+    while at < plane.inner.count {
+        let count = most.min(plane.inner.count - at);
+        let piece = inner_block(plane, at, count);
+        copy_tile_columns::<N>(order, piece, source, target);
+        at += count;
+    }
 }
 
 /// The columns of a tile, most of which have as many elements as a tile can have.

@@ -28,7 +28,7 @@ use Rattle.cu_node.specs.declared.faults.NodeFault.{NodeFault}
 use Rattle.cu_node.specs.declared.info.NodeInfo.{NodeInfo}
 use Rattle.cu_op.specs.KernelTypes.{Operand, Typed, Literal as Number, IsArgument, HaveType, KernelFits}
 use Rattle.cu_typing.specs.Joined.{arrays_of}
-use Rattle.cu_expr.specs.Kernel.{function_of, kernel_of, types_of}
+use Rattle.cu_expr.specs.Kernel.{function_of, element_kernel, types_of}
 use Rattle.cu_typing.specs.Types.{may_be, accepts_arguments, met_type, pair_type, array_type, bounded_type, shared_type, result_type}
 use Rattle.cu_typing.specs.declared.argument.Argument.{Argument}
 use Rattle.cu_typing.specs.declared.argument.Argument.TheVariants.{Array, Written}
@@ -74,19 +74,19 @@ own_argument : (f : Fn1) (t : Dtype) → IsArgument f t t
 own_argument one.Astype t = tt
 own_argument f t = refl
 
-one_fits : (f : Fn1) (a : NodeInfo) → accepts1 f a.dtype ≡ true → KernelFits (kernel_of (One f) a.dtype (Array a ∷ [])) (a.dtype ∷ []) [] (result_type1 f a.dtype)
+one_fits : (f : Fn1) (a : NodeInfo) → accepts1 f a.dtype ≡ true → KernelFits (element_kernel (One f) a.dtype (Array a ∷ [])) (a.dtype ∷ []) [] (result_type1 f a.dtype)
 one_fits f a h = (Typed a.dtype, (a.dtype, refl, refl), (Typed (result_type1 f a.dtype), (a.dtype, refl, own_argument f a.dtype, h, refl), refl))
 
-cast_fits : (d : Dtype) (a : NodeInfo) (t : Dtype) → KernelFits (kernel_of (Astype d) t (Array a ∷ [])) (a.dtype ∷ []) [] d
+cast_fits : (d : Dtype) (a : NodeInfo) (t : Dtype) → KernelFits (element_kernel (Astype d) t (Array a ∷ [])) (a.dtype ∷ []) [] d
 cast_fits d a t = (Typed a.dtype, (a.dtype, refl, refl), (Typed d, (a.dtype, refl, tt, refl, refl), refl))
 
-two_fits : (f : Fn2) (x y : Argument) (t : Dtype) → HaveType (operand x) (operand y) t → accepts2 f t ≡ true → KernelFits (kernel_of (Two f) t (x ∷ y ∷ [])) (types_of (arrays_of (x ∷ y ∷ []))) [] (result_type2 f t)
+two_fits : (f : Fn2) (x y : Argument) (t : Dtype) → HaveType (operand x) (operand y) t → accepts2 f t ≡ true → KernelFits (element_kernel (Two f) t (x ∷ y ∷ [])) (types_of (arrays_of (x ∷ y ∷ []))) [] (result_type2 f t)
 two_fits f (Array a) (Array b) t h g = (Typed a.dtype, (a.dtype, refl, refl), (Typed b.dtype, (b.dtype, refl, refl), (Typed (result_type2 f t), (Typed a.dtype, Typed b.dtype, refl, refl, h, g, refl), refl)))
 two_fits f (Array a) (Written v) t h g = (Typed a.dtype, (a.dtype, refl, refl), (Number (literal_number v), refl, (Typed (result_type2 f t), (Typed a.dtype, Number (literal_number v), refl, refl, h, g, refl), refl)))
 two_fits f (Written v) (Array b) t h g = (Number (literal_number v), refl, (Typed b.dtype, (b.dtype, refl, refl), (Typed (result_type2 f t), (Number (literal_number v), Typed b.dtype, refl, refl, h, g, refl), refl)))
 two_fits f (Written v) (Written w) t h g = absurd h
 
-where_fits : (c : NodeInfo) (x y : Argument) (t : Dtype) → c.dtype ≡ Bool → HaveType (operand x) (operand y) t → KernelFits (kernel_of Where t (Array c ∷ x ∷ y ∷ [])) (types_of (arrays_of (Array c ∷ x ∷ y ∷ []))) [] t
+where_fits : (c : NodeInfo) (x y : Argument) (t : Dtype) → c.dtype ≡ Bool → HaveType (operand x) (operand y) t → KernelFits (element_kernel Where t (Array c ∷ x ∷ y ∷ [])) (types_of (arrays_of (Array c ∷ x ∷ y ∷ []))) [] t
 where_fits c (Array a) (Array b) t e h = (Typed c.dtype, (c.dtype, refl, refl), (Typed a.dtype, (a.dtype, refl, refl), (Typed b.dtype, (b.dtype, refl, refl), (Typed t, (Typed a.dtype, Typed b.dtype, t, ap (λ d. Some (Typed d)) e, refl, refl, h, refl), refl))))
 where_fits c (Array a) (Written v) t e h = (Typed c.dtype, (c.dtype, refl, refl), (Typed a.dtype, (a.dtype, refl, refl), (Number (literal_number v), refl, (Typed t, (Typed a.dtype, Number (literal_number v), t, ap (λ d. Some (Typed d)) e, refl, refl, h, refl), refl))))
 where_fits c (Written v) (Array b) t e h = (Typed c.dtype, (c.dtype, refl, refl), (Number (literal_number v), refl, (Typed b.dtype, (b.dtype, refl, refl), (Typed t, (Number (literal_number v), Typed b.dtype, t, ap (λ d. Some (Typed d)) e, refl, refl, h, refl), refl))))
@@ -100,7 +100,7 @@ chosen_fits false x y t types h g = (Typed Bool, (x, y, refl, refl, h, g, refl),
 
 -- an extreme: the test takes both arguments in the type that they have together, and so does the choice
 extreme_fits : (least : Test) (x y : Argument) (t : Dtype) → HaveType (operand x) (operand y) t → is_integer t ≡ true
-    → KernelFits (kernel_of (Extreme least) t (x ∷ y ∷ [])) (types_of (arrays_of (x ∷ y ∷ []))) [] t
+    → KernelFits (element_kernel (Extreme least) t (x ∷ y ∷ [])) (types_of (arrays_of (x ∷ y ∷ []))) [] t
 extreme_fits least (Array a) (Array b) t h g =
     (Typed a.dtype, (a.dtype, refl, refl), (Typed b.dtype, (b.dtype, refl, refl), chosen_fits least (Typed a.dtype) (Typed b.dtype) t (a.dtype ∷ b.dtype ∷ []) h g))
 extreme_fits least (Array a) (Written v) t h g =
@@ -115,7 +115,7 @@ pair_integer x y t g h p = pair_accepted LessEqual x y t g h p
 
 -- two bounds: a test and a choice for each, in the argument's type
 clip_fits : (min max : ℤ) (a : NodeInfo) → InRange a.dtype min → InRange a.dtype max → is_integer a.dtype ≡ true
-    → KernelFits (kernel_of (Clip min max) a.dtype (Array a ∷ [])) (a.dtype ∷ []) [] a.dtype
+    → KernelFits (element_kernel (Clip min max) a.dtype (Array a ∷ [])) (a.dtype ∷ []) [] a.dtype
 clip_fits min max a l h g = (
   Typed a.dtype,
   (a.dtype, refl, refl),
@@ -150,13 +150,13 @@ bounds_passed min max a t h =
     (high.0, rw (← high.0) (met a.dtype a.dtype (Int min) both.0).1, high.1)
 
 clip_told : (min max : ℤ) (a : NodeInfo) (t : Dtype) → is_integer a.dtype ≡ true → (a.dtype ≡ t) × InRange t min × InRange t max
-    → KernelFits (kernel_of (Clip min max) t (Array a ∷ [])) (a.dtype ∷ []) [] t
+    → KernelFits (element_kernel (Clip min max) t (Array a ∷ [])) (a.dtype ∷ []) [] t
 clip_told min max a t g b = rw (← b.0) (clip_fits min max a (rw b.0 b.1) (rw b.0 b.2) g)
 
 own_type : (a : NodeInfo) (t : Dtype) → array_type (Array a) ≡ Ok t → a.dtype ≡ t
 own_type a t h = cc
 
-pub kernel_fits : (op : ElementOp) (args : List Argument) (t : Dtype) → accepts_arguments op args ≡ true → shared_type op args ≡ Ok t → KernelFits (kernel_of op t args) (types_of (arrays_of args)) [] (result_type op t)
+pub kernel_fits : (op : ElementOp) (args : List Argument) (t : Dtype) → accepts_arguments op args ≡ true → shared_type op args ≡ Ok t → KernelFits (element_kernel op t args) (types_of (arrays_of args)) [] (result_type op t)
 kernel_fits (One f) [] t g h = cc
 kernel_fits (One f) (Array a ∷ []) t g h = rw (← own_type a t h) (one_fits f a g)
 kernel_fits (One f) (Written v ∷ []) t g h = cc

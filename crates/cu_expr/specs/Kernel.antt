@@ -38,8 +38,8 @@ function_of (Clip min max) t =
     instr.Const min ∷ instr.Two GreaterEqual t 0 1 ∷ instr.Select 2 0 1
     ∷ instr.Const max ∷ instr.Two LessEqual t 3 4 ∷ instr.Select 5 3 4 ∷ []
 
-abbrev pub kernel_of : ElementOp → Dtype → List Argument → List Instr
-kernel_of op t args = loads_from 0 args ++ function_of op t
+abbrev pub element_kernel : ElementOp → Dtype → List Argument → List Instr
+element_kernel op t args = loads_from 0 args ++ function_of op t
 
 -- the types of arrays
 abbrev pub types_of : List NodeInfo → List Dtype
@@ -56,4 +56,4 @@ result_grid i = record { shape = i.dims; chunk = i.chunk }
 -- array is aligned goes along with the result's, and the kernel fits.
 pub record IsMap (op : ElementOp) (args : List Argument) (t : Dtype) (result : NodeInfo) : Type 0 where
   pub aligned : All (λ i. IsAligned (aligned_grid result i) (result_grid result)) (arrays_of args)
-  pub kernel : KernelFits (kernel_of op t args) (types_of (arrays_of args)) [] result.dtype
+  pub kernel : KernelFits (element_kernel op t args) (types_of (arrays_of args)) [] result.dtype

@@ -7,10 +7,10 @@ use Rattle.cu_shape.specs.Index.{product}
 use Rattle.cu_grid.specs.Grid.{RegularGrid}
 use Rattle.cu_op.specs.declared.layout.ArrayInfo.{ArrayInfo}
 use Rattle.cu_op.specs.declared.operation.Op.{Op}
-use Rattle.cu_op.specs.declared.operation.Op.TheVariants.{Map}
 use Rattle.cu_op.specs.declared.operation.Planned.{Planned}
 use Rattle.cu_op.specs.Arrays.{array_at, is_inlined, maker_at, grid_counts, array_chunk_count, AllStored}
 use Rattle.cu_op.specs.Cells.{regions_of, tasks_of}
+use Rattle.cu_op.specs.Kind.Map.{map_of}
 use Rattle.cu_op.specs.Operation.{writes_of, renumbered}
 use Rattle.cu_op.specs.PlanView.{PlanView}
 use Rattle.cu_op.specs.Sound.{Sound, cells_by, made_chunks}
@@ -47,7 +47,7 @@ module _ (s : SettingView) (f : Planned → ℕ) (a : ℕ) (old new : List Plann
 joint_out : (s : SettingView) (a : ℕ) (old new : List Planned) (t : Step s a old new) → (writes_of (joint s t.maker t.reader a).op ≡ writes_of t.reader.op) × (tasks_of s.arrays (joint s t.maker t.reader a).op ≡ tasks_of s.arrays t.reader.op)
 joint_out s a old new t =
     let same = t.merged.same in
-    let both : merged_op t.maker.op t.reader.op t.j ≡ merged_op (Map t.joins.inner t.joins.inner_ins a) (Map t.joins.outer t.joins.outer_ins t.joins.out) t.j = (λ k. merged_op (t.joins.makes k) (t.joins.takes k) t.j) in (
+    let both : merged_op t.maker.op t.reader.op t.j ≡ merged_op (map_of t.joins.inner t.joins.inner_ins a) (map_of t.joins.outer t.joins.outer_ins t.joins.out) t.j = (λ k. merged_op (t.joins.makes k) (t.joins.takes k) t.j) in (
       same.writes ∙ ap writes_of both ∙ sym (ap writes_of t.joins.takes),
       same.tasks ∙ ap (tasks_of s.arrays) both ∙ sym (ap (tasks_of s.arrays) t.joins.takes),
     )

@@ -6,7 +6,7 @@ use Rattle.cu_op.specs.Arrays.{chunk_room, HasLayoutOf}
 use Rattle.cu_op.specs.Cells.{task_grid}
 use Rattle.cu_op.specs.Kinds.{kind_of}
 use Rattle.cu_op.specs.Operation.{writes_of, reads_of, Fits, renumbered}
-use Rattle.cu_op.specs.Projection.{own_projection, scratch_room}
+use Rattle.cu_op.specs.Projection.{kernel_length, own_projection, scratch_room}
 use Rattle.cu_op.specs.Elements.{Elements}
 use Rattle.cu_op.specs.Value.{rule}
 use Rattle.cu_op.specs.declared.layout.ArrayInfo.{ArrayInfo}
@@ -53,7 +53,7 @@ module _ (f : ℕ → ℕ) (old new : List ArrayInfo) (Kept : ℕ → Type 0) (k
   renumbered_projection op reserved reads writes =
       let law = (laws_of op).renumbered f in
       let own = keeps op reads writes in
-      λ i. reserved + scratch_same op reads writes i + law.input_room old new own i + law.output_room old new own i + 512 * law.instructions i
+      λ i. reserved + scratch_same op reads writes i + law.input_room old new own i + law.output_room old new own i + 512 * kernel_length (law.kernel i)
 
   -- its tasks go over the same grid
   pub renumbered_tasks : (op : Op) → All Kept (reads_of op) → All Kept (writes_of op) → task_grid new (renumbered f op) ≡ task_grid old op

@@ -6,13 +6,12 @@ use Rattle.std.specs.Prelude.{unwrap_or}
 use Rattle.std.proofs.lemmas.Bool.{cases_Bool, and_parts, leb-true}
 use Rattle.std.proofs.lemmas.Bool.Decides.{eqb_tells}
 use Rattle.std.proofs.lemmas.Slice.Eq.{bytes_eq-Decides}
-use Rattle.arrayvec.specs.ArrayVec.{ArrayVec}
 use Rattle.cu_grid.specs.Grid.{RegularGrid}
-use Rattle.cu_op.specs.declared.kernel.Kernel.{Kernel}
 use Rattle.cu_op.specs.declared.operation.Op.{Op}
-use Rattle.cu_op.specs.declared.operation.Op.TheVariants.{Map}
 use Rattle.cu_op.specs.declared.operation.Planned.{Planned}
+use Rattle.cu_op.proofs.KindLaws.{map_by_kernel}
 use Rattle.cu_op.specs.Arrays.{grid_at, same_grid}
+use Rattle.cu_op.specs.Kind.Map.{map_of}
 use Rattle.cu_op.specs.Operation.{reads_of, writes_of, target_of}
 use Rattle.cu_op.specs.Projection.{instruction_count}
 use Rattle.cu_op.specs.Elements.{Elements}
@@ -21,6 +20,7 @@ use Rattle.cu_fuse.specs.Fused.{SettingView, is_map, is_reader, stands_once, joi
 use Rattle.cu_op.specs.Numbers.{number_in, stands_in}
 use Rattle.cu_fuse.specs.Merge.{Joins, merged_op}
 use Rattle.cu_fuse.specs.Runs.{HasReader, CanRun, AreMade}
+use Rattle.cu_fuse.proofs.ByKernel.{kernel_is}
 use Rattle.cu_fuse.proofs.Distinct.{at_place, stands}
 use Rattle.cu_fuse.proofs.Loaded.{loaded_has, made_once, runs_once}
 use Rattle.cu_fuse.proofs.Running.{IsJoint, merge_runs, merge_made}
@@ -56,10 +56,6 @@ not_read (o ∷ os) a h (inr there) = elim (cases_Bool (is_reader a o)) [
 ]
 
 -- ---- one array
-
-map_is : (op : Op) → is_map op ≡ true → (kernel : Kernel) × (ins : ArrayVec ℕ) × (out : ℕ) × (op ≡ Map kernel ins out)
-map_is (Map kernel ins out) h = (kernel, ins, out, refl)
-map_is op h = cc
 
 not_true : (b : Bool) → not b ≡ true → b ≡ false
 not_true true h = cc
@@ -136,9 +132,10 @@ module _ (s : SettingView) (room : s.allowed < 2 ^ 64) (a : ℕ) where
       let j = number_in (reads_of reader.op) a in
       let t = tested s maker reader behind a may in
       let few : (joint s maker reader a).projected ≤ s.allowed = leb-true (joint s maker reader a).projected s.allowed t.allowed in
-      let (inner, inner_ins, mid, m) = map_is maker.op t.makes in
-      let (outer, outer_ins, out, r) = map_is reader.op t.takes in
-      let same : mid ≡ a = only_written mid a (subst (λ (o : Op). Contains (writes_of o) a) m (any_contains (writes_of maker.op) a writes)) in
+      let (inner, inner_is) = kernel_is maker.op t.makes in
+      let (outer, outer_is) = kernel_is reader.op t.takes in
+      let m = map_by_kernel maker.op inner inner_is in
+      let same : target_of maker.op ≡ a = only_written (target_of maker.op) a (subst (λ (o : Op). Contains (writes_of o) a) m (any_contains (writes_of maker.op) a writes)) in
       record {
         front = [];
         maker = maker;
@@ -150,17 +147,17 @@ module _ (s : SettingView) (room : s.allowed < 2 ^ 64) (a : ℕ) where
         after = refl;
         joins = record {
           inner = inner;
-          inner_ins = inner_ins;
+          inner_ins = reads_of maker.op;
           outer = outer;
-          outer_ins = outer_ins;
-          out = out;
-          makes = m ∙ ap (Map inner inner_ins) same;
-          takes = r;
-          input = subst (λ (o : Op). slice_get (reads_of o) j ≡ Some a) r (at_place (reads_of reader.op) a t.read);
-          alone = λ k other e. once_alone (reads_of reader.op) a k (not_true _ t.once) other (subst (λ (o : Op). slice_get (reads_of o) k ≡ Some a) (sym r) e);
+          outer_ins = reads_of reader.op;
+          out = target_of reader.op;
+          makes = m ∙ ap (map_of inner (reads_of maker.op)) same;
+          takes = map_by_kernel reader.op outer outer_is;
+          input = at_place (reads_of reader.op) a t.read;
+          alone = λ k other e. once_alone (reads_of reader.op) a k (not_true _ t.once) other e;
           between_apart = apart;
           behind_apart = not_read behind a (not_true _ t.alone);
-          grid = grids_equal (grid_at s.arrays a) (grid_at s.arrays (target_of reader.op)) t.grid ∙ ap (λ (o : Op). grid_at s.arrays (target_of o)) r;
+          grid = grids_equal (grid_at s.arrays a) (grid_at s.arrays (target_of reader.op)) t.grid;
         };
         merged = record { same = loaded_does s.arrays s.once (merged_op maker.op reader.op j); projected = refl; room = omega arith };
         allowed = few;
@@ -214,11 +211,15 @@ module _ (s : SettingView) (room : s.allowed < 2 ^ 64) (a : ℕ) where
   away_step [] = inl refl
   away_step (o ∷ os) = elim (cases_Bool (stands_in (writes_of o.op) a)) [
     | inl here ↦ made here (into_reader s o a os) refl
-    | inr there ↦
-        let first : merged_away s a (o ∷ os) ≡ o ∷ merged_away s a os = (λ i. if there i then unwrap_or (into_reader s o a os) (o ∷ os) else (o ∷ merged_away s a os)) in
-        ⊎_elim (λ same. inl (first ∙ ap (λ l. o ∷ l) same)) (λ step. inr (subst (Step s a (o ∷ os)) (sym first) (behind o os (merged_away s a os) step))) (away_step os)
+    | inr there ↦ passed there (away_step os)
   ]
     where
+      first : stands_in (writes_of o.op) a ≡ false → merged_away s a (o ∷ os) ≡ o ∷ merged_away s a os
+      first there = λ i. if there i then unwrap_or (into_reader s o a os) (o ∷ os) else (o ∷ merged_away s a os)
+
+      put_first : (xs ys all : List Planned) → all ≡ o ∷ xs → xs ≡ ys → all ≡ o ∷ ys
+      put_first xs ys all e same = e ∙ ap (λ (l : List Planned). o ∷ l) same
+
       behind : (o : Planned) (old new : List Planned) → Step s a old new → Step s a (o ∷ old) (o ∷ new)
       behind o old new t = record {
         front = o ∷ t.front;
@@ -234,6 +235,11 @@ module _ (s : SettingView) (room : s.allowed < 2 ^ 64) (a : ℕ) where
         allowed = t.allowed;
         kept = t.kept;
       }
+
+      passed : stands_in (writes_of o.op) a ≡ false → (merged_away s a os ≡ os) ⊎ Step s a os (merged_away s a os)
+          → (merged_away s a (o ∷ os) ≡ o ∷ os) ⊎ Step s a (o ∷ os) (merged_away s a (o ∷ os))
+      passed there (inl same) = inl (put_first (merged_away s a os) os (merged_away s a (o ∷ os)) (first there) same)
+      passed there (inr step) = inr (subst (Step s a (o ∷ os)) (sym (first there)) (behind o os (merged_away s a os) step))
 
       made : stands_in (writes_of o.op) a ≡ true → (rest : Option (List Planned)) → into_reader s o a os ≡ rest → (merged_away s a (o ∷ os) ≡ o ∷ os) ⊎ Step s a (o ∷ os) (merged_away s a (o ∷ os))
       made here None is = inl (λ i. if here i then unwrap_or (is i) (o ∷ os) else (o ∷ merged_away s a os))

@@ -1,29 +1,25 @@
 -- A merged map as its tests see it.
-use Rattle.std.proofs.Common.{◌≡◌, ℕ, ◌<◌, ◌≤◌, ◌&&◌, nat_le, Bool, true, false, length, Option, Some, None, refl, arith}
+use Rattle.std.proofs.Common.{◌≡◌, ℕ, ◌<◌, ◌≤◌, ◌&&◌, nat_le, Bool, true, false, List, length, Option, Some, None, refl, arith}
 use Rattle.std.specs.Prelude.{OnSome}
 use Rattle.std.proofs.lemmas.Bool.Decides.{nat_tests}
-use Rattle.arrayvec.specs.ArrayVec.{ArrayVec}
-use Rattle.cu_op.specs.declared.kernel.Kernel.{Kernel}
-use Rattle.cu_op.specs.declared.operation.Op.TheVariants.{Map}
+use Rattle.cu_op.specs.declared.kernel.Instr.{Instr}
 use Rattle.cu_op.specs.declared.operation.Planned.{Planned}
 use Rattle.cu_op.specs.Numbers.{number_in}
-use Rattle.cu_op.specs.Operation.{reads_of}
+use Rattle.cu_op.specs.Operation.{kernel_of, reads_of}
 use Rattle.cu_op.specs.Projection.{instruction_count}
 use Rattle.cu_fuse.specs.Fused.{SettingView, are_maps, is_small, joint_op}
-use Rattle.cu_fuse.specs.Merge.{merged_op}
-use Rattle.cu_fuse.specs.Once.{loaded_by, plain_map}
-use Rattle.cu_fuse.specs.Splice.{put_in, spliced}
+use Rattle.cu_fuse.specs.Merge.{merged_by, merged_map}
+use Rattle.cu_fuse.specs.Once.{loaded_by}
 
 -- of a kernel and arrays in place of an input
-pub joined : (s : SettingView) (maker reader : Planned) (a : ℕ) (inner outer : Kernel)
-    (inner_ins outer_ins : ArrayVec ℕ) (mid out : ℕ) → maker.op ≡ Map inner inner_ins mid
-    → reader.op ≡ Map outer outer_ins out
+pub joined : (s : SettingView) (maker reader : Planned) (a : ℕ) (inner outer : List Instr)
+    → kernel_of maker.op ≡ Some inner → kernel_of reader.op ≡ Some outer
     → joint_op s maker reader a
-    ≡ loaded_by s.once (plain_map (spliced (number_in outer_ins.items a) (length inner_ins.items)
-    inner.code.items outer.code.items)
-    (put_in (number_in outer_ins.items a) inner_ins.items outer_ins.items) out)
-joined s maker reader a inner outer inner_ins outer_ins mid out m r =
-    λ i. loaded_by s.once (merged_op (m i) (r i) (number_in (reads_of (r i)) a))
+    ≡ loaded_by s.once
+    (merged_map maker.op reader.op (number_in (reads_of reader.op) a) inner outer)
+joined s maker reader a inner outer m r =
+    λ i. loaded_by s.once
+    (merged_by maker.op reader.op (number_in (reads_of reader.op) a) (m i) (r i))
 
 -- ---- whether it is small
 

@@ -1,3 +1,4 @@
+pub mod ByKernel
 pub mod Splicing
 pub mod Merging
 pub mod Distinct

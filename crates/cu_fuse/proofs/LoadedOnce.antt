@@ -1,6 +1,6 @@
 -- A map with one load of each array: no array stands twice among its inputs, and no input is loaded
 -- twice but by the last instruction.
-use Rattle.std.proofs.Common.{◌≡◌, ◌⊎◌, inl, inr, ℕ, zero, suc, ◌+◌, ◌<◌, ◌≤◌, ◌==◌, ◌||◌, not, Bool, true, false, List, [], ◌∷◌, length, map, Option, Some, None, get_or, refl, ap, sym, ◌∙◌, arith}
+use Rattle.std.proofs.Common.{◌≡◌, ◌⊎◌, inl, inr, ℕ, zero, suc, ◌+◌, ◌<◌, ◌≤◌, ◌==◌, ◌||◌, not, Bool, true, false, List, [], ◌∷◌, length, map, Option, Some, None, get_or, unwrap_or, refl, ap, sym, ◌∙◌, subst, arith}
 use Rattle.std.specs.List.{filter, range_with_len, slice_get}
 use Rattle.std.specs.Option.{option_map}
 use Rattle.std.proofs.lemmas.Bool.{cases_Bool}
@@ -10,12 +10,13 @@ use Rattle.std.proofs.lemmas.Option.{same_Some, slice_get-get_or, slice_get-map}
 use Rattle.cu_op.specs.declared.kernel.Instr.{Instr}
 use Rattle.cu_op.specs.declared.kernel.Instr.TheVariants.{Load, Const, One, Two, Select}
 use Rattle.cu_op.specs.declared.operation.Op.{Op}
-use Rattle.cu_op.specs.declared.operation.Op.TheVariants.{Map}
-use Rattle.cu_op.specs.Operation.{reads_of}
+use Rattle.cu_op.specs.Kind.Map.{map_of}
+use Rattle.cu_op.specs.Operation.{kernel_of, reads_of, target_of}
 use Rattle.cu_op.specs.Projection.{instruction_count}
 use Rattle.cu_fuse.specs.Fused.{is_map}
 use Rattle.cu_op.specs.Numbers.{stands_in}
-use Rattle.cu_fuse.specs.Once.{at_places, distinct, first_like, first_load_of, loading_once, one_load, over_distinct, places, plain_map, stays, step_at}
+use Rattle.cu_fuse.specs.Once.{at_places, distinct, first_like, first_load_of, loading_once, map_once, one_load, over_distinct, places, stays, step_at}
+use Rattle.cu_fuse.proofs.ByKernel.{by_kernel, has_map}
 use Rattle.cu_fuse.proofs.Distinct.{distinct_stands, length-distinct}
 use Rattle.cu_fuse.proofs.LoadingOnce.{fewer_steps}
 
@@ -211,29 +212,49 @@ module _ (code : List Instr) where
 
 -- ---- an operation
 
+-- one that has no kernel stays as it is
+pub no_kernel_stays : (op : Op) → kernel_of op ≡ None → one_load op ≡ op
+no_kernel_stays op none =
+    ap (λ (k : Option (List Instr)).
+    unwrap_or (option_map (λ (code : List Instr). map_once code (reads_of op) (target_of op)) k) op)
+    none
+
+pub other_stays : (op : Op) → is_map op ≡ false → one_load op ≡ op
+other_stays op h = go (kernel_of op) refl
+  where
+    go : (k : Option (List Instr)) → kernel_of op ≡ k → one_load op ≡ op
+    go (Some code) is = let f : true ≡ false = sym (has_map op code is) ∙ h in cc
+    go None is = no_kernel_stays op is
+
 pub same_reads : (op : Op) (a : ℕ) → stands_in (reads_of (one_load op)) a
     ≡ stands_in (reads_of op) a
-same_reads (Map kernel ins out) a = distinct_stands ins.items a
-same_reads op a = refl
+same_reads op a =
+    by_kernel (λ (o : Op). stands_in (reads_of (one_load o)) a ≡ stands_in (reads_of o) a)
+    (λ code ins out. distinct_stands ins a)
+    (λ o none. ap (λ (p : Op). stands_in (reads_of p) a) (no_kernel_stays o none)) op
+
+-- it has no more inputs and instructions than another
+abbrev HasNoMore : Op → Op → Type 0
+HasNoMore other op = (length (reads_of other) ≤ length (reads_of op))
+    × (instruction_count other ≤ instruction_count op)
 
 pub fewer_of : (op : Op) → (length (reads_of (one_load op)) ≤ length (reads_of op))
     × (instruction_count (one_load op) ≤ instruction_count op)
-fewer_of (Map kernel ins out) = (
-  length-distinct ins.items,
-  (let steps = fewer_steps (map (over_distinct ins.items) kernel.code.items) in let long =
-      length-map kernel.code.items (over_distinct ins.items) in omega (arith, steps, long)),
-)
-fewer_of op = (omega arith, omega arith)
-
-pub other_stays : (op : Op) → is_map op ≡ false → one_load op ≡ op
-other_stays (Map kernel ins out) h = cc
-other_stays op h = refl
+fewer_of op =
+    by_kernel (λ (o : Op). HasNoMore (one_load o) o)
+    (λ code ins out. (
+      length-distinct ins,
+      (let steps = fewer_steps (map (over_distinct ins) code) in let long =
+          length-map code (over_distinct ins) in omega (arith, steps, long)),
+    ))
+    (λ o none. subst (λ (p : Op). HasNoMore p o) (sym (no_kernel_stays o none))
+    (omega arith, omega arith)) op
 
 -- one load of each array makes no small map too large
 pub not_larger : (code : List Instr) (ins : List ℕ) (out : ℕ) → length code ≤ 32 → length ins ≤ 8
-    → (32 < instruction_count (one_load (plain_map code ins out)))
-    ⊎ (8 < length (reads_of (one_load (plain_map code ins out)))) → ⊥
+    → (32 < instruction_count (one_load (map_of code ins out)))
+    ⊎ (8 < length (reads_of (one_load (map_of code ins out)))) → ⊥
 not_larger code ins out steps inputs (inl more) =
-    let few = (fewer_of (plain_map code ins out)).1 in omega (arith, steps, more, few)
+    let few = (fewer_of (map_of code ins out)).1 in omega (arith, steps, more, few)
 not_larger code ins out steps inputs (inr more) =
-    let few = (fewer_of (plain_map code ins out)).0 in omega (arith, inputs, more, few)
+    let few = (fewer_of (map_of code ins out)).0 in omega (arith, inputs, more, few)

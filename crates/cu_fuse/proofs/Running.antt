@@ -8,9 +8,9 @@ use Rattle.cu_shape.specs.Index.{IsInside}
 use Rattle.cu_grid.specs.Grid.{RegularGrid}
 use Rattle.cu_op.specs.declared.layout.ArrayInfo.{ArrayInfo}
 use Rattle.cu_op.specs.declared.operation.Op.{Op}
-use Rattle.cu_op.specs.declared.operation.Op.TheVariants.{Map}
 use Rattle.cu_op.specs.declared.operation.Planned.{Planned}
 use Rattle.cu_op.specs.Arrays.{grid_at, maker_at}
+use Rattle.cu_op.specs.Kind.Map.{map_of}
 use Rattle.cu_op.specs.Operation.{reads_of, writes_of, Fits}
 use Rattle.cu_op.specs.Projection.{own_projection}
 use Rattle.cu_op.specs.Elements.{Elements}
@@ -121,10 +121,10 @@ joint_of arrays reserved maker reader both j is = record {
 module _ (arrays : List ArrayInfo) (reserved : ℕ) (front between behind : List Planned) (maker reader both : Planned) (array j : ℕ)
     (joins : Joins arrays (record { maker = maker; between = between; reader = reader; behind = behind }) array j) (is : IsJoint arrays reserved maker reader both j) where
   abbrev I : Op
-  I = Map joins.inner joins.inner_ins array
+  I = map_of joins.inner joins.inner_ins array
 
   abbrev O : Op
-  O = Map joins.outer joins.outer_ins joins.out
+  O = map_of joins.outer joins.outer_ins joins.out
 
   abbrev M : Op
   M = merged_op I O j
@@ -135,7 +135,7 @@ module _ (arrays : List ArrayInfo) (reserved : ℕ) (front between behind : List
   both_writes : writes_of both.op ≡ writes_of M
   both_writes = both_same.writes
 
-  merge_of : Fits arrays maker.op → Fits arrays reader.op → IsMerge arrays joins.inner.code.items joins.outer.code.items joins.inner_ins.items joins.outer_ins.items array joins.out j
+  merge_of : Fits arrays maker.op → Fits arrays reader.op → IsMerge arrays joins.inner joins.outer joins.inner_ins joins.outer_ins array joins.out j
   merge_of m r = record { maker = subst (Fits arrays) joins.makes m; reader = subst (Fits arrays) joins.takes r; input = joins.input; grid = joins.grid }
 
   -- what isn't the array between is at hand without its maker
@@ -180,30 +180,30 @@ module _ (arrays : List ArrayInfo) (reserved : ℕ) (front between behind : List
     reader_step : CanFollow arrays reserved ((front ++ maker ∷ []) ++ between) reader
     reader_step = parts.1.0
 
-    reader_reads : All (IsAtHand arrays ((front ++ maker ∷ []) ++ between)) joins.outer_ins.items
+    reader_reads : All (IsAtHand arrays ((front ++ maker ∷ []) ++ between)) joins.outer_ins
     reader_reads = subst (λ (o : Op). All (IsAtHand arrays ((front ++ maker ∷ []) ++ between)) (reads_of o)) joins.takes reader_step.reads
 
-    maker_reads : All (IsAtHand arrays front) joins.inner_ins.items
+    maker_reads : All (IsAtHand arrays front) joins.inner_ins
     maker_reads = subst (λ (o : Op). All (IsAtHand arrays front) (reads_of o)) joins.makes maker_step.reads
 
     reader_writes : All (IsNew arrays ((front ++ maker ∷ []) ++ between)) (joins.out ∷ [])
     reader_writes = subst (λ (o : Op). All (IsNew arrays ((front ++ maker ∷ []) ++ between)) (writes_of o)) joins.takes reader_step.writes
 
-    merge : IsMerge arrays joins.inner.code.items joins.outer.code.items joins.inner_ins.items joins.outer_ins.items array joins.out j
+    merge : IsMerge arrays joins.inner joins.outer joins.inner_ins joins.outer_ins array joins.out j
     merge = merge_of maker_step.fits reader_step.fits
 
     both_step : CanFollow arrays reserved (front ++ between) both
     both_step = record {
       reads = reads_same arrays M both.op (IsAtHand arrays (front ++ between)) both_same
-          (all_put_in_but (IsAtHand arrays (front ++ between)) j array joins.inner_ins.items joins.outer_ins.items joins.input
+          (all_put_in_but (IsAtHand arrays (front ++ between)) j array joins.inner_ins joins.outer_ins joins.input
           (λ k b other at.
-          let w = slice_get_within joins.outer_ins.items k b at in
+          let w = slice_get_within joins.outer_ins k b at in
           let apart : b ≢ array = λ e. joins.alone k other (at ∙ ap Some e) in
-          moved_on (front ++ maker ∷ []) front b (without front b apart) (subst (IsAtHand arrays ((front ++ maker ∷ []) ++ between)) (get_or_from_slice_get joins.outer_ins.items k b b at) (reader_reads k b w)))
-          (λ k d b. early (get_or joins.inner_ins.items k d) (maker_reads k d b)));
+          moved_on (front ++ maker ∷ []) front b (without front b apart) (subst (IsAtHand arrays ((front ++ maker ∷ []) ++ between)) (get_or_from_slice_get joins.outer_ins k b b at) (reader_reads k b w)))
+          (λ k d b. early (get_or joins.inner_ins k d) (maker_reads k d b)));
       writes = subst (All (IsNew arrays (front ++ between))) (sym both_writes)
           (λ k d b. let (within, made, new) = reader_writes k d b in (within, made, λ w. new (fewer (get_or (joins.out ∷ []) k d) w)));
-      fits = both_same.fits (merged_fits arrays joins.inner.code.items joins.outer.code.items joins.inner_ins.items joins.outer_ins.items array joins.out j merge);
+      fits = both_same.fits (merged_fits arrays joins.inner joins.outer joins.inner_ins joins.outer_ins array joins.out j merge);
       projected = is.projected;
       room = is.room;
     }
@@ -275,6 +275,6 @@ module _ (arrays : List ArrayInfo) (reserved : ℕ) (front between behind : List
             let by_reader : at joins.out idx ≡ rule O arrays at joins.out idx =
             reads joins.out idx (subst (λ (o : Op). Contains (writes_of o) joins.out) (sym joins.takes) (0, omega arith, refl)) here ∙ ap (λ (o : Op). rule o arrays at joins.out idx) joins.takes in
             let same_value : rule M arrays at a idx ≡ rule O arrays at joins.out idx =
-            merged_value arrays joins.inner.code.items joins.outer.code.items joins.inner_ins.items joins.outer_ins.items array joins.out j merge at idx here by_maker in
+            merged_value arrays joins.inner joins.outer joins.inner_ins joins.outer_ins array joins.out j merge at idx here by_maker in
             ap (λ (b : ℕ). at b idx) same ∙ by_reader ∙ sym same_value
-            ∙ sym (both_same.value (merged_fits arrays joins.inner.code.items joins.outer.code.items joins.inner_ins.items joins.outer_ins.items array joins.out j merge) at a idx)
+            ∙ sym (both_same.value (merged_fits arrays joins.inner joins.outer joins.inner_ins joins.outer_ins array joins.out j merge) at a idx)

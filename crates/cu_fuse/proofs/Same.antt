@@ -1,6 +1,6 @@
 -- An operation that does what another does over the same arrays; a map with one load of each array
 -- is one.
-use Rattle.std.proofs.Common.{◌≡◌, ℕ, ℤ, ◌<◌, ◌≤◌, Bool, true, false, List, [], ◌∷◌, ◌++◌, All, Contains, length, map, Option, Some, get_or, refl, ap, sym, ◌∙◌, arith}
+use Rattle.std.proofs.Common.{◌≡◌, ℕ, ℤ, ◌<◌, ◌≤◌, Bool, true, false, List, [], ◌∷◌, ◌++◌, All, Contains, length, map, Option, Some, get_or, refl, ap, sym, ◌∙◌, subst, arith}
 use Rattle.std.specs.List.{slice_get}
 use Rattle.std.specs.Option.{option_and_then, option_map}
 use Rattle.std.proofs.lemmas.List.{length-map}
@@ -13,21 +13,22 @@ use Rattle.cu_op.specs.declared.kernel.Instr.{Instr}
 use Rattle.cu_op.specs.declared.kernel.Instr.TheVariants.{Load, Const, One, Two, Select}
 use Rattle.cu_op.specs.declared.layout.ArrayInfo.{ArrayInfo}
 use Rattle.cu_op.specs.declared.operation.Op.{Op}
-use Rattle.cu_op.specs.declared.operation.Op.TheVariants.{Map}
 use Rattle.cu_op.specs.Aligned.{IsAligned}
 use Rattle.cu_op.specs.Arrays.{chunk_room, grid_at, type_at}
 use Rattle.cu_op.specs.Cells.{tasks_of}
 use Rattle.cu_op.specs.Elements.{Elements}
 use Rattle.cu_op.specs.Kernel.{instruction_value, kernel_value, last_of, results_from}
 use Rattle.cu_op.specs.KernelTypes.{GivesOperand, KernelFits, Operand}
-use Rattle.cu_op.specs.Kind.Map.{MapFits, loaded}
+use Rattle.cu_op.specs.Kind.Map.{MapFits, loaded, map_of}
 use Rattle.cu_op.specs.Numbers.{number_in}
 use Rattle.cu_op.specs.Operation.{Fits, reads_of, target_of, writes_of}
 use Rattle.cu_op.specs.Projection.{HasSmallRegions, own_projection}
 use Rattle.cu_op.specs.Value.{rule}
 use Rattle.cu_op.proofs.Alike.{same_then}
 use Rattle.cu_fuse.specs.Once.{distinct, loaded_by, loading_once, one_load, over_distinct}
+use Rattle.cu_fuse.proofs.ByKernel.{by_kernel}
 use Rattle.cu_fuse.proofs.Distinct.{all_distinct, at_place, distinct_stands, distinct_within, largest_within, stands, sum_distinct, within_largest}
+use Rattle.cu_fuse.proofs.LoadedOnce.{no_kernel_stays}
 use Rattle.cu_fuse.proofs.LoadingOnce.{fewer_steps, once_fits, once_value}
 
 -- ---- a kernel over each of its inputs once
@@ -147,10 +148,8 @@ module _ (arrays : List ArrayInfo) (code : List Instr) (ins : List ℕ) (out : �
       (Contains-append_right ins (out ∷ []) a c)) (out ∷ []) (All-contains_itself (out ∷ []))))
 
   once_needs : (reserved : ℕ)
-      → own_projection arrays reserved
-      (one_load (Map (record { code = record { items = code } }) (record { items = ins }) out))
-      ≤ own_projection arrays reserved (Map (record { code = record { items = code } })
-      (record { items = ins }) out)
+      → own_projection arrays reserved (one_load (map_of code ins out))
+      ≤ own_projection arrays reserved (map_of code ins out)
   once_needs reserved =
       let scratch = same_scratch in
       let inputs = sum_distinct (chunk_room arrays) ins in
@@ -180,15 +179,17 @@ does_itself arrays op = record {
 }
 
 pub one_load_does : (arrays : List ArrayInfo) (op : Op) → DoesSame arrays op (one_load op)
-one_load_does arrays (Map kernel ins out) = record {
-  reads = distinct_within ins.items;
-  writes = refl;
-  tasks = refl;
-  fits = λ h. once_map_fits arrays kernel.code.items ins.items out h;
-  value = λ h at a idx. once_map_value arrays kernel.code.items ins.items out h at idx;
-  needs = once_needs arrays kernel.code.items ins.items out;
-}
-one_load_does arrays op = does_itself arrays op
+one_load_does arrays op =
+    by_kernel (λ (o : Op). DoesSame arrays o (one_load o))
+    (λ code ins out. record {
+      reads = distinct_within ins;
+      writes = refl;
+      tasks = refl;
+      fits = λ h. once_map_fits arrays code ins out h;
+      value = λ h at a idx. once_map_value arrays code ins out h at idx;
+      needs = once_needs arrays code ins out;
+    })
+    (λ o none. subst (DoesSame arrays o) (sym (no_kernel_stays o none)) (does_itself arrays o)) op
 
 pub loaded_does : (arrays : List ArrayInfo) (once : Bool) (op : Op)
     → DoesSame arrays op (loaded_by once op)
@@ -203,12 +204,15 @@ reads_same arrays op other P same all =
     (reads_of other) same.reads
 
 pub same_target : (once : Bool) (op : Op) → target_of (loaded_by once op) ≡ target_of op
-same_target true (Map kernel ins out) = refl
-same_target true op = refl
+same_target true op =
+    by_kernel (λ (o : Op). target_of (one_load o) ≡ target_of o) (λ code ins out. refl)
+    (λ o none. ap target_of (no_kernel_stays o none)) op
 same_target false op = refl
 
 pub loaded_small : (once : Bool) (op : Op) → HasSmallRegions op
     → HasSmallRegions (loaded_by once op)
-loaded_small true (Map kernel ins out) h = h
-loaded_small true op h = h
+loaded_small true op h =
+    by_kernel (λ (o : Op). HasSmallRegions o → HasSmallRegions (one_load o))
+    (λ code ins out small. small)
+    (λ o none small. subst HasSmallRegions (sym (no_kernel_stays o none)) small) op h
 loaded_small false op h = h

@@ -5,10 +5,7 @@ use Rattle.std.proofs.lemmas.Bool.{cases_Bool, cases_lt}
 use Rattle.std.proofs.lemmas.Bool.Decides.{eqb_tells, nat_tests}
 use Rattle.std.proofs.lemmas.List.{drop_more}
 use Rattle.std.proofs.lemmas.List.Elements.{All-cons}
-use Rattle.arrayvec.specs.ArrayVec.{ArrayVec}
-use Rattle.cu_op.specs.declared.kernel.Kernel.{Kernel}
 use Rattle.cu_op.specs.declared.operation.Op.{Op}
-use Rattle.cu_op.specs.declared.operation.Op.TheVariants.{Map}
 use Rattle.cu_op.specs.declared.operation.Planned.{Planned}
 use Rattle.cu_op.specs.declared.layout.ArrayInfo.{ArrayInfo}
 use Rattle.cu_op.specs.Operation.{reads_of, writes_of}
@@ -77,8 +74,8 @@ rest_taken xs n = take_all (length xs - n) (drop n xs) (let l = length-drop n xs
 
 -- ---- the inputs of the maps
 
-pub inputs_taken : (ops rest : List Planned) (o : Planned) (kernel : Kernel) (ins : ArrayVec ℕ) (out : ℕ) → ops ≡ o ∷ rest → o.op ≡ Map kernel ins out → map_inputs ops ≡ ins.items ++ map_inputs rest
-inputs_taken ops rest o kernel ins out e is = ap map_inputs e ∙ ap (λ (p : Op). if is_map p then reads_of p ++ map_inputs rest else map_inputs rest) is
+pub inputs_taken : (ops rest : List Planned) (o : Planned) → ops ≡ o ∷ rest → is_map o.op ≡ true → map_inputs ops ≡ reads_of o.op ++ map_inputs rest
+inputs_taken ops rest o e is = ap map_inputs e ∙ (λ i. if is i then reads_of o.op ++ map_inputs rest else map_inputs rest)
 
 pub inputs_passed : (ops rest : List Planned) (o : Planned) → ops ≡ o ∷ rest → is_map o.op ≡ false → map_inputs ops ≡ map_inputs rest
 inputs_passed ops rest o e other = ap map_inputs e ∙ (λ i. if other i then reads_of o.op ++ map_inputs rest else map_inputs rest)
@@ -89,10 +86,6 @@ not_below m n h = grind (arith, nat_tests)
 -- what is reserved counts once
 pub reserved_apart : (arrays : List ArrayInfo) (reserved : ℕ) (op : Op) → own_projection arrays reserved op ≡ reserved + own_projection arrays 0 op
 reserved_apart arrays reserved op = omega arith
-
-pub no_map : (op : Op) → ((kernel : Kernel) (ins : ArrayVec ℕ) (out : ℕ) → op ≡ Map kernel ins out → ⊥) → is_map op ≡ false
-no_map (Map kernel ins out) other = absurd (other kernel ins out refl)
-no_map op other = refl
 
 -- a sum that is no number of 64 bits exceeds what is allowed
 pub over_all : (allowed reserved own all : ℕ) → (reserved + own < 2 ^ 64 → ⊥) → all ≡ reserved + own → allowed < 2 ^ 64 → allowed < all
@@ -125,9 +118,9 @@ all_pass ops a k e h = elim (eqb_tells k (length ops)) [
     below k n r e h other = omega (arith, e, h, other)
 
 -- a map of which one input alone reads the array
-pub one_reader : (o : Planned) (behind : List Planned) (a : ℕ) (kernel : Kernel) (ins : ArrayVec ℕ) (out : ℕ) → o.op ≡ Map kernel ins out
-    → (is_map o.op && has_one_reader o behind a) ≡ stands_once ins.items a && not (list_any (is_reader a) behind)
-one_reader o behind a kernel ins out is = ap (λ (p : Op). is_map p && (stands_once (reads_of p) a && not (list_any (is_reader a) behind))) is
+pub one_reader : (o : Planned) (behind : List Planned) (a : ℕ) → is_map o.op ≡ true
+    → (is_map o.op && has_one_reader o behind a) ≡ stands_once (reads_of o.op) a && not (list_any (is_reader a) behind)
+one_reader o behind a is = λ i. is i && (stands_once (reads_of o.op) a && not (list_any (is_reader a) behind))
 
 -- an operation writes the array where the first that does is among them
 pub maker_passes : (ops : List Planned) (a k : ℕ) → k ≡ maker_of ops a → nat_lt k (length ops) ≡ has_maker ops a

@@ -23,3 +23,8 @@ small_numbers [] types os t fits a b = λ k d h. absurd (omega arith)
 small_numbers (i ∷ is) types os t (r, gives, fits) a b =
     let n = length-append os (r ∷ []) in
     All-cons AreNumbersBelow i is (small_one i types os r gives a (omega arith)) (small_numbers is types (os ++ r ∷ []) t fits a (omega (arith, n)))
+
+-- and it has a step
+pub some_steps : (code : List Instr) (types : List Dtype) (t : Dtype) → KernelFits code types [] t → 0 < length code
+some_steps [] types t fits = cc
+some_steps (i ∷ is) types t fits = omega arith

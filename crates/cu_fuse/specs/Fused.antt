@@ -1,14 +1,13 @@
 -- The operations that are left when makers are merged into their readers, one array after another
 -- (this project's own rule).
-use Rattle.std.specs.Prelude.{ℕ, suc, ◌+◌, ◌==◌, ◌&&◌, nat_le, not, Bool, true, false, List, [], ◌∷◌, ◌++◌, length, drop, map, Option, Some, None, option_map, unwrap_or, if◌then◌else◌}
+use Rattle.std.specs.Prelude.{ℕ, suc, ◌+◌, ◌==◌, ◌&&◌, nat_le, not, Bool, List, [], ◌∷◌, ◌++◌, length, drop, map, Option, Some, None, is_some, option_map, unwrap_or, if◌then◌else◌}
 use Rattle.std.specs.List.{list_any}
 use Rattle.cu_op.specs.Numbers.{number_in, stands_in}
 use Rattle.cu_op.specs.declared.layout.ArrayInfo.{ArrayInfo}
 use Rattle.cu_op.specs.declared.operation.Op.{Op}
-use Rattle.cu_op.specs.declared.operation.Op.TheVariants.{Map}
 use Rattle.cu_op.specs.declared.operation.Planned.{Planned}
 use Rattle.cu_op.specs.Arrays.{grid_at, same_grid}
-use Rattle.cu_op.specs.Operation.{reads_of, writes_of, target_of}
+use Rattle.cu_op.specs.Operation.{kernel_of, reads_of, writes_of, target_of}
 use Rattle.cu_op.specs.Projection.{own_projection, instruction_count}
 use Rattle.cu_fuse.specs.Merge.{merged_op}
 use Rattle.cu_fuse.specs.Once.{loaded_by, one_load}
@@ -22,10 +21,9 @@ pub record SettingView : Type 0 where
   pub reserved : ℕ
   pub once : Bool
 
--- whether an operation is a map
+-- whether an operation is a map: it has a kernel
 abbrev pub is_map : Op → Bool
-is_map (Map kernel ins out) = true
-is_map op = false
+is_map op = is_some (kernel_of op)
 
 -- whether an operation reads array `a`
 abbrev pub is_reader : ℕ → Planned → Bool

@@ -1,11 +1,12 @@
 -- A map that loads each array once (this project's own rule).
-use Rattle.std.specs.Prelude.{ℕ, ◌+◌, ◌==◌, ◌||◌, not, Bool, false, List, [], ◌∷◌, length, map, filter, count_by, slice_index, slice_index_or, if◌then◌else◌}
+use Rattle.std.specs.Prelude.{ℕ, ◌+◌, ◌==◌, ◌||◌, not, Bool, false, List, [], ◌∷◌, length, map, filter, count_by, option_map, unwrap_or, slice_index, slice_index_or, if◌then◌else◌}
 use Rattle.std.specs.List.{position_or_len, range_with_len}
 use Rattle.cu_op.specs.declared.kernel.Instr.{Instr}
 use Rattle.cu_op.specs.declared.kernel.Instr.TheVariants.{Load, Const, One, Two, Select}
 use Rattle.cu_op.specs.declared.operation.Op.{Op}
-use Rattle.cu_op.specs.declared.operation.Op.TheVariants.{Map}
+use Rattle.cu_op.specs.Kind.Map.{map_of}
 use Rattle.cu_op.specs.Numbers.{number_in}
+use Rattle.cu_op.specs.Operation.{kernel_of, reads_of, target_of}
 
 -- ---- each array once among the inputs
 
@@ -66,18 +67,15 @@ loading_once code = map (λ n. at_places (places code n) (step_at code n))
 
 -- ---- an operation
 
--- the map of this kernel over these arrays into another
-abbrev pub plain_map : List Instr → List ℕ → ℕ → Op
-plain_map code ins out =
-    Map (record { code = record { items = code } }) (record { items = ins }) out
+-- the map of this kernel over these arrays, with each array once among its inputs and one load of
+-- it, both at the place of the first
+abbrev pub map_once : List Instr → List ℕ → ℕ → Op
+map_once code ins out = map_of (loading_once (map (over_distinct ins) code)) (distinct ins) out
 
--- A map with each array once among its inputs and one load of it, both at the place of the first;
--- another operation as it is.
+-- an operation that has a kernel as such a map; another as it is
 abbrev pub one_load : Op → Op
-one_load (Map kernel ins out) =
-    plain_map (loading_once (map (over_distinct ins.items) kernel.code.items))
-    (distinct ins.items) out
-one_load op = op
+one_load op =
+    unwrap_or (option_map (λ code. map_once code (reads_of op) (target_of op)) (kernel_of op)) op
 
 -- an operation where maps load an array once, and where they need not
 abbrev pub loaded_by : Bool → Op → Op

@@ -65,30 +65,19 @@ pub(crate) fn join(
         && is_small setting.now (joint setting.now maker.now reader.now a)) ≡ false }
 {
     one_map_law();
-    match &maker.op {
-        Op::Map {
-            kernel: inner,
-            ins: inner_ins,
-            ..
-        } => match &reader.op {
-            Op::Map {
-                kernel: outer,
-                ins: outer_ins,
-                out,
-            } => {
-                let j = number_in(outer_ins.as_slice(), a);
-                let inside = Inner {
-                    input: j as u32,
-                    width: inner_ins.len() as u32,
-                    code: inner.code.as_slice(),
-                };
-                let code = spliced(inside, outer.code.as_slice());
-                let ins = put_in(j, inner_ins.as_slice(), outer_ins.as_slice());
-                let op = loaded_map(setting.once, code.as_slice(), ins.as_slice(), *out)?;
-                within_allowed(setting, op, reader.node)
-            }
-            _ => None,
-        },
-        _ => None,
-    }
+    let inner = maker.op.kernel()?;
+    let outer = reader.op.kernel()?;
+    let inner_ins = maker.op.reads();
+    let outer_ins = reader.op.reads();
+    let j = number_in(outer_ins.as_slice(), a);
+    let inside = Inner {
+        input: j as u32,
+        width: inner_ins.len() as u32,
+        code: inner.code.as_slice(),
+    };
+    let code = spliced(inside, outer.code.as_slice());
+    let ins = put_in(j, inner_ins.as_slice(), outer_ins.as_slice());
+    let out = reader.op.target();
+    let op = loaded_map(setting.once, code.as_slice(), ins.as_slice(), out)?;
+    within_allowed(setting, op, reader.node)
 }

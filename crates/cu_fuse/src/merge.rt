@@ -67,12 +67,9 @@ pub(crate) fn reader_of(ops: &[Planned], a: u32) -> usize
 fn has_one_reader(reader: &Planned, behind: &[Planned], a: u32) -> bool
     ensures { result ≡ (is_map reader.now.op && has_one_reader reader.now behind.now a) }
 {
-    match &reader.op {
-        Op::Map { ins, .. } => {
-            stands_once(ins.as_slice(), a) && reader_of(behind, a) == behind.len()
-        }
-        _ => false,
-    }
+    reader.op.kernel().is_some()
+        && stands_once(reader.op.reads().as_slice(), a)
+        && reader_of(behind, a) == behind.len()
 }
 
 /// The reader of array `a` with its maker merged in, where these operations stand behind it; none
@@ -131,8 +128,8 @@ fn map_inputs(alloc: Global, ops: &[Planned]) -> Result<Vec<u32>, AllocError>
 {
     let mut inputs = Vec::new(alloc);
     for planned in ops {
-        if let Op::Map { ins, .. } = &planned.op {
-            inputs.extend_from_slice(ins.as_slice())?;
+        if planned.op.kernel().is_some() {
+            inputs.extend_from_slice(planned.op.reads().as_slice())?;
         }
     }
     Ok(inputs)

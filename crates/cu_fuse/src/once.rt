@@ -2,12 +2,13 @@
 ghost use Rattle.std.specs.Prelude.{◌≡◌, ◌<◌, ◌≤◌, ◌^◌, ◌⊎◌, All, IfSome, OnSome, None, [], length};
 ghost use Rattle.std.specs.Prelude.{map};
 ghost use Rattle.std.specs.List.{position_or_len};
+ghost use Rattle.cu_op.specs.Kind.Map.{map_of};
 ghost use Rattle.cu_op.specs.Layout.{IsArray};
 ghost use Rattle.cu_op.specs.Operation.{reads_of};
 ghost use Rattle.cu_op.specs.Projection.{instruction_count, own_projection};
 ghost use Rattle.cu_fuse.specs.Fused.{with_one_load};
 ghost use Rattle.cu_fuse.specs.Once.{at_places, distinct, first_like, first_load_of, loaded_by};
-ghost use Rattle.cu_fuse.specs.Once.{loading_once, loads, over_distinct, plain_map, stays, step_at};
+ghost use Rattle.cu_fuse.specs.Once.{loading_once, loads, over_distinct, stays, step_at};
 ghost use Rattle.cu_fuse.specs.Runs.{CanRun, IsOverArrays};
 
 use crate::inputs::{distinct, number_at};
@@ -138,7 +139,7 @@ fn loading_once(code: &[Instr]) -> ArrayVec<Instr, 1024>
 
 /// A map of this kernel over these arrays; none where it has more than 8 inputs or 32 instructions.
 fn small_map(code: &[Instr], ins: &[u32], out: u32) -> Option<Op>
-    ensures map { IfSome result (λ op. op ≡ plain_map code.now ins.now out) }
+    ensures map { IfSome result (λ op. op ≡ map_of code.now ins.now out) }
     ensures steps { OnSome result (length code.now ≤ 32) }
     ensures inputs { OnSome result (length ins.now ≤ 8) }
     ensures none { result ≡ None → (32 < length code.now) ⊎ (8 < length ins.now) }
@@ -148,11 +149,7 @@ fn small_map(code: &[Instr], ins: &[u32], out: u32) -> Option<Op>
     if steps.try_extend_from_slice(code).is_err() || inputs.try_extend_from_slice(ins).is_err() {
         return None;
     }
-    Some(Op::Map {
-        kernel: Kernel { code: steps },
-        ins: inputs,
-        out,
-    })
+    Some(Op::map_of(Kernel { code: steps }, inputs, out))
 }
 
 /// A map of this kernel over these arrays, with one load of each of them where maps load an array
@@ -160,14 +157,14 @@ fn small_map(code: &[Instr], ins: &[u32], out: u32) -> Option<Op>
 pub(crate) fn loaded_map(once: bool, code: &[Instr], ins: &[u32], out: u32) -> Option<Op>
     requires code { length code.now ≤ 1024 }
     requires ins { length ins.now ≤ 16 }
-    ensures map { IfSome result (λ op. op ≡ loaded_by once (plain_map code.now ins.now out)) }
+    ensures map { IfSome result (λ op. op ≡ loaded_by once (map_of code.now ins.now out)) }
     ensures steps { OnSome result
-        (instruction_count (loaded_by once (plain_map code.now ins.now out)) ≤ 32) }
+        (instruction_count (loaded_by once (map_of code.now ins.now out)) ≤ 32) }
     ensures inputs { OnSome result
-        (length (reads_of (loaded_by once (plain_map code.now ins.now out))) ≤ 8) }
+        (length (reads_of (loaded_by once (map_of code.now ins.now out))) ≤ 8) }
     ensures none { result ≡ None
-        → (32 < instruction_count (loaded_by once (plain_map code.now ins.now out)))
-        ⊎ (8 < length (reads_of (loaded_by once (plain_map code.now ins.now out)))) }
+        → (32 < instruction_count (loaded_by once (map_of code.now ins.now out)))
+        ⊎ (8 < length (reads_of (loaded_by once (map_of code.now ins.now out)))) }
 {
     if !once {
         return small_map(code, ins, out);
@@ -190,10 +187,12 @@ fn load_once(setting: &MergeSetting, planned: &mut Planned)
     requires room { planned.old.projected < 2 ^ 64 }
     ensures { planned.new ≡ with_one_load setting.now planned.old }
 {
-    let Op::Map { kernel, ins, out } = &planned.op else {
+    let Some(kernel) = planned.op.kernel() else {
         return;
     };
-    let Some(op) = loaded_map(true, kernel.code.as_slice(), ins.as_slice(), *out) else {
+    let ins = planned.op.reads();
+    let out = planned.op.target();
+    let Some(op) = loaded_map(true, kernel.code.as_slice(), ins.as_slice(), out) else {
         return;
     };
     planned.projected = own_projection(&setting.arrays, setting.reserved, &op);

@@ -20,7 +20,7 @@ use Rattle.cu_node.specs.Info.{info_at}
 use Rattle.cu_node.specs.declared.info.NodeInfo.{NodeInfo}
 use Rattle.cu_semantics.specs.Argument.{NodeElements, shape_of_node, argument_at}
 use Rattle.cu_semantics.specs.Rule.{function_value}
-use Rattle.cu_expr.specs.Kernel.{loads_from, function_of, kernel_of}
+use Rattle.cu_expr.specs.Kernel.{loads_from, function_of, element_kernel}
 use Rattle.cu_typing.specs.Types.{accepts_arguments, result_type}
 use Rattle.cu_expr.specs.Typing.{argument_of}
 
@@ -167,7 +167,7 @@ module _ (must : Bool) (infos : List NodeInfo) (at : NodeElements) (idx : List �
 
   -- the whole kernel
   pub kernel_told : (op : ElementOp) (t : Dtype) (args : List Arg) → accepts_arguments op (map (argument_of infos) args) ≡ true → Loaded 0 args
-      → Told must (kernel_value (kernel_of op t (map (argument_of infos) args)) load) (function_value op (result_type op t) (values args))
+      → Told must (kernel_value (element_kernel op t (map (argument_of infos) args)) load) (function_value op (result_type op t) (values args))
   kernel_told op t args accepted l =
       elim (run 0 args (function_of op t) [] l) [
         | inl all ↦ inl (ap (option_and_then last_of) all.0 ∙ applied op t args accepted all.1)

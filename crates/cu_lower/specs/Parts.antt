@@ -8,12 +8,13 @@ use Rattle.cu_num.specs.declared.types.Dtype.TheVariants.{Bool}
 use Rattle.cu_grid.specs.Grid.{IsGrid}
 use Rattle.cu_name.specs.Keys.{made_prefix_of}
 use Rattle.cu_op.specs.Arrays.{maker_at}
+use Rattle.cu_op.specs.Kind.Map.{map_of}
 use Rattle.cu_op.specs.Operation.{IsBefore}
 use Rattle.cu_op.specs.declared.kernel.Instr.{Instr}
 use Rattle.cu_op.specs.declared.layout.ArrayInfo.{ArrayInfo}
 use Rattle.cu_op.specs.declared.layout.Layout.{Layout}
 use Rattle.cu_op.specs.declared.operation.Op.{Op}
-use Rattle.cu_op.specs.declared.operation.Op.TheVariants.{Map, Pull}
+use Rattle.cu_op.specs.declared.operation.Op.TheVariants.{Pull}
 use Rattle.cu_op.specs.declared.operation.Planned.{Planned}
 use Rattle.cu_form.specs.Expression.{Expression}
 use Rattle.cu_form.specs.Form.{args_of, group_kind, names_earlier, takes_args, HasShortIndex}
@@ -23,7 +24,7 @@ use Rattle.cu_form.specs.declared.form.Form.{Form}
 use Rattle.cu_node.specs.Info.{info_at}
 use Rattle.cu_node.specs.declared.faults.NodeFault.{NodeFault}
 use Rattle.cu_node.specs.declared.info.NodeInfo.{NodeInfo}
-use Rattle.cu_expr.specs.Kernel.{kernel_of}
+use Rattle.cu_expr.specs.Kernel.{element_kernel}
 use Rattle.cu_typing.specs.Types.{shared_type}
 use Rattle.cu_typing.specs.declared.argument.Argument.{Argument}
 use Rattle.cu_expr.specs.Typing.{argument_of}
@@ -89,7 +90,7 @@ type_or_bool (Err f) = Bool
 
 -- a load or a literal for each argument in order, then the instructions of the function
 abbrev pub instructions_of : ElementOp → List Argument → List Instr
-instructions_of op told = kernel_of op (type_or_bool (shared_type op told)) told
+instructions_of op told = element_kernel op (type_or_bool (shared_type op told)) told
 
 -- the arrays of the arguments that are arrays, in order
 abbrev pub array_places : List ℕ → List Arg → List ℕ
@@ -99,8 +100,8 @@ array_places places (Arg.Int x ∷ args) = array_places places args
 array_places places (Arg.Truth b ∷ args) = array_places places args
 
 -- the map that makes array `out` of the arguments, whose arrays are `ins`
-abbrev pub map_of : List NodeInfo → ElementOp → List Arg → List ℕ → ℕ → Op
-map_of infos op args ins out = Map (record { code = record { items = instructions_of op (map (argument_of infos) args) } }) (record { items = ins }) out
+abbrev pub elementwise_op : List NodeInfo → ElementOp → List Arg → List ℕ → ℕ → Op
+elementwise_op infos op args ins out = map_of (instructions_of op (map (argument_of infos) args)) ins out
 
 -- ---- a view
 
@@ -202,7 +203,7 @@ behind_copies s ins wanted own = aligned_steps s ins wanted ++ own (aligned_plac
 abbrev pub steps_of : List NodeInfo → Options → ℕ → Form → List ℕ → ℕ → List Step
 steps_of infos options k (Form.Elementwise op args) ins first =
     behind_copies (copying options first) ins (operands_of infos k (Form.Elementwise op args))
-    (λ read next. only_step infos k (map_of infos op args read next) (own_need options.reserved options.split_every infos k (Form.Elementwise op args)))
+    (λ read next. only_step infos k (elementwise_op infos op args read next) (own_need options.reserved options.split_every infos k (Form.Elementwise op args)))
 steps_of infos options k (Form.Reduce kind args axes keepdims) ins first = reduction_steps (setting options first) (reduction_of infos k kind args axes ins)
 steps_of infos options k (Form.ArgPlace least args axis keepdims) ins first = search_steps (setting options first) (search_of infos k least args axis ins)
 steps_of infos options k (Form.Matmul args) ins first =

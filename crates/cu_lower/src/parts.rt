@@ -11,7 +11,7 @@ ghost use Rattle.cu_expr.specs.Kernel.{first_is, loads_from, function_of};
 ghost use Rattle.cu_typing.specs.Types.{array_type, pair_type, shared_type};
 ghost use Rattle.cu_expr.specs.Typing.{argument_of};
 ghost use Rattle.cu_lower.specs.Inputs.{input_names};
-ghost use Rattle.cu_lower.specs.Parts.{type_or_bool, made_layout, made_array, array_places, source_places, map_of, view_op};
+ghost use Rattle.cu_lower.specs.Parts.{type_or_bool, made_layout, made_array, array_places, source_places, elementwise_op, view_op};
 
 use crate::inputs::place_of;
 use arrayvec::ArrayVec;
@@ -160,7 +160,7 @@ pub(crate) fn source_places(names: &[IdText], places: &[u32], form: &Form) -> Ar
 }
 
 /// The map that makes array `out` of the arguments, whose arrays are `ins`.
-pub(crate) fn map_of(
+pub(crate) fn elementwise_op(
     infos: &[NodeInfo],
     op: ElementOp,
     args: &[Arg],
@@ -169,15 +169,11 @@ pub(crate) fn map_of(
 ) -> Op
     requires takes { element_takes op args.now ≡ true }
     requires typed { IsOk (shared_type op (map (argument_of infos.now) args.now)) }
-    ensures { result ≡ map_of infos.now op args.now ins.items out }
+    ensures { result ≡ elementwise_op infos.now op args.now ins.items out }
 {
     let mut code = loads(args);
     push_function(&mut code, op, shared_type(op, infos, args));
-    Op::Map {
-        kernel: Kernel { code },
-        ins,
-        out,
-    }
+    Op::map_of(Kernel { code }, ins, out)
 }
 
 /// The operation that makes array `out` of a view of these arrays.

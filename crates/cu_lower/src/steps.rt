@@ -13,11 +13,11 @@ ghost use Rattle.cu_typing.specs.Types.{shared_type};
 ghost use Rattle.cu_node.specs.Info.{IsInfo, info_at};
 ghost use Rattle.cu_need.specs.Need.{own_need};
 ghost use Rattle.cu_need.specs.View.{is_view};
-ghost use Rattle.cu_lower.specs.Parts.{AreOptions, CanGrow, copying, only_step, setting, map_of, product_of, grouped_over, view_op, steps_of};
+ghost use Rattle.cu_lower.specs.Parts.{AreOptions, CanGrow, copying, only_step, setting, elementwise_op, product_of, grouped_over, view_op, steps_of};
 
 use crate::aligned::{Aligned, align, copy_steps, copying};
 use crate::options::Options;
-use crate::parts::{map_of, view_op};
+use crate::parts::{elementwise_op, view_op};
 use crate::reduced::{
     cumulative_of, cumulative_steps, grouped_of, grouped_over, product_of, push_groups,
     push_product, reduction_of, reduction_steps, search_of, search_steps, setting, source_of,
@@ -101,14 +101,19 @@ fn map_steps(
 ) -> Result<Vec<Step>, AllocError>
     requires takes { element_takes op args.now ≡ true }
     requires typed { IsOk (shared_type op (map (argument_of infos.now) args.now)) }
-    ensures { IfOk result (λ steps. steps.items ≡ aligned.steps.items ++ only_step infos.now node (map_of infos.now op args.now aligned.places.items aligned.next) need) }
+    ensures { IfOk result (λ steps. steps.items ≡ aligned.steps.items ++ only_step infos.now node (elementwise_op infos.now op args.now aligned.places.items aligned.next) need) }
 {
     let Aligned {
         mut steps,
         places,
         next,
     } = aligned;
-    steps.push(only_step(infos, node, map_of(infos, op, args, places, next), need))?;
+    steps.push(only_step(
+        infos,
+        node,
+        elementwise_op(infos, op, args, places, next),
+        need,
+    ))?;
     Ok(steps)
 }
 

@@ -11,16 +11,14 @@ use Rattle.cu_origin.specs.declared.axes.Axes.{Axes}
 use Rattle.cu_op.specs.Arrays.{grid_at, type_at}
 use Rattle.cu_op.specs.Partial.{partial_grid, chunk_groups, IsSqueezed}
 use Rattle.cu_op.specs.declared.layout.ArrayInfo.{ArrayInfo}
-use Rattle.cu_op.specs.declared.operation.Op.TheVariants.{Fold}
 use Rattle.cu_node.specs.declared.info.NodeInfo.{NodeInfo}
-use Rattle.cu_tree.specs.Needs.{fold_need}
 use Rattle.cu_tree.specs.Partials.{first_partial, reduction_rounds, merged, written_before}
 use Rattle.cu_tree.specs.Rounds.{AreRounds}
 use Rattle.cu_tree.specs.declared.round.Round.{Round}
 use Rattle.cu_tree.proofs.Orders.{of_reduction}
 use Rattle.cu_tree.proofs.Sizes.{length-dims, length-chunk}
 use Rattle.cu_lower_reduce.specs.Partials.{IsSetting}
-use Rattle.cu_lower_reduce.specs.Reductions.{merges, folded, reduction_steps, whole_groups, IsReduction}
+use Rattle.cu_lower_reduce.specs.Reductions.{fold_head, merges, folded, reduction_steps, whole_groups, IsReduction}
 use Rattle.cu_lower_reduce.specs.Steps.{grid_of, HasInfo, HaveInfos, all_made, IsGiven, IsStep, AreSteps}
 use Rattle.cu_lower_reduce.specs.declared.reduction.Reduction.{Reduction}
 use Rattle.cu_lower_reduce.specs.declared.step.Setting.{Setting}
@@ -106,7 +104,7 @@ turn_of s x k h = record {
 fold_holds : (arrays : List ArrayInfo) (s : Setting) (x : Reduction) (rs : List Round) → IsSetting s → IsReduction x → IsTurn s x.axes x.from x.made (first_partial x.made.dtype x.axes x.from) rs
     → HasInfo arrays x.source x.from → HasInfo arrays s.first (written_before rs (first_partial x.made.dtype x.axes x.from) x.made)
     → IsStep arrays s.reserved (x.source ∷ []) s.first s.first
-    (record { op = Fold x.kind x.axes x.source s.first; values = None; made = written_before rs (first_partial x.made.dtype x.axes x.from) x.made; need = fold_need s.reserved (chunk_bytes x.from) (chunk_bytes x.made) })
+    (fold_head s x (first_partial x.made.dtype x.axes x.from) rs)
 fold_holds arrays s x rs k h t i o =
     let partial = first_partial x.made.dtype x.axes x.from in
     let wt = written_type rs partial x.made refl in

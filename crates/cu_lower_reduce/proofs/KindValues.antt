@@ -1,6 +1,6 @@
 -- The elements of the arrays that a fold and merges make.
 use Rattle.std.proofs.lemmas.List.{length-map}
-use Rattle.std.proofs.Common.{◌==◌, ◌≡◌, ℕ, ℤ, suc, ◌+◌, ◌<◌, ◌≤◌, List, [], ◌∷◌, Contains, map, Option, None, Some, refl, ap, sym, ◌∙◌, subst, arith}
+use Rattle.std.proofs.Common.{◌==◌, ◌≡◌, ℕ, ℤ, suc, ◌+◌, ◌<◌, ◌≤◌, List, [], ◌∷◌, Contains, map, Option, Some, refl, ap, sym, ◌∙◌, subst, arith}
 use Rattle.cu_num.specs.Dtype.{InRange}
 use Rattle.cu_num.specs.declared.types.Dtype.{Dtype}
 use Rattle.cu_num.specs.declared.folds.FoldKind.{FoldKind}
@@ -20,11 +20,10 @@ use Rattle.cu_op.specs.Value.{rule}
 use Rattle.cu_op.specs.declared.layout.ArrayInfo.{ArrayInfo}
 use Rattle.cu_op.specs.declared.operation.Op.TheVariants.{Fold, Merge}
 use Rattle.cu_node.specs.declared.info.NodeInfo.{NodeInfo}
-use Rattle.cu_tree.specs.Needs.{fold_need, merge_need}
-use Rattle.cu_tree.specs.Partials.{first_partial, reduction_rounds, merged, written_before}
+use Rattle.cu_tree.specs.Partials.{first_partial, reduction_rounds, merged}
 use Rattle.cu_tree.specs.declared.round.Round.{Round}
 use Rattle.cu_lower_reduce.specs.Partials.{IsSetting}
-use Rattle.cu_lower_reduce.specs.Reductions.{merges, folded, reduction_steps, whole_groups, reduced_indices, IsReduction}
+use Rattle.cu_lower_reduce.specs.Reductions.{fold_head, merge_head, merges, folded, reduction_steps, whole_groups, reduced_indices, IsReduction}
 use Rattle.cu_lower_reduce.specs.Steps.{grid_of, HasInfo, HaveInfos, all_made, SolveSteps}
 use Rattle.cu_lower_reduce.specs.declared.reduction.Reduction.{Reduction}
 use Rattle.cu_lower_reduce.specs.declared.step.Setting.{Setting}
@@ -36,7 +35,6 @@ use Rattle.cu_lower_reduce.proofs.Lasts.{last_target}
 use Rattle.cu_lower_reduce.proofs.Squeezed.{same_elements}
 use Rattle.cu_lower_reduce.proofs.Standing.{merged_grid, end_grid}
 use Rattle.cu_lower_reduce.proofs.Stepping.{IsChain, IsTurn, next_turn, enough_along}
-use Rattle.cu_node.specs.Info.{chunk_bytes}
 
 -- ---- steps one after another
 
@@ -48,13 +46,6 @@ contains_head y ys = (0, omega arith, refl)
 
 pub solve_behind : (arrays : List ArrayInfo) (at : Elements) (y : Step) (ys : List Step) → SolveSteps arrays at (y ∷ ys) → SolveSteps arrays at ys
 solve_behind arrays at y ys h x a idx c w = h x a idx (contains_behind y ys x c) w
-
-abbrev merge_head : Setting → FoldKind → NodeInfo → ℕ → NodeInfo → Round → List Round → Step
-merge_head s kind made source i r rs =
-    record { op = Merge kind r.axis s.split_every source (source + 1); values = None; made = written_before rs (merged r i) made; need = merge_need s.reserved s.split_every (chunk_bytes made) }
-
-abbrev fold_head : Setting → Reduction → NodeInfo → List Round → Step
-fold_head s x i rs = record { op = Fold x.kind x.axes x.source s.first; values = None; made = written_before rs i x.made; need = fold_need s.reserved (chunk_bytes x.from) (chunk_bytes x.made) }
 
 -- ---- the rules, where the infos are known
 

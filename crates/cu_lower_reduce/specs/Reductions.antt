@@ -17,27 +17,34 @@ use Rattle.cu_lower_reduce.specs.declared.reduction.Reduction.{Reduction}
 use Rattle.cu_lower_reduce.specs.declared.step.Setting.{Setting}
 use Rattle.cu_lower_reduce.specs.declared.step.Step.{Step}
 
+-- the merge of a round over array number `source`, which has these partial results, where rounds follow
+abbrev pub merge_head : Setting → FoldKind → NodeInfo → ℕ → NodeInfo → Round → List Round → Step
+merge_head s kind made source partial r rs = record {
+  op = Merge kind r.axis s.split_every source (source + 1);
+  values = None;
+  made = written_before rs (merged r partial) made;
+  need = merge_need s.reserved s.split_every (chunk_bytes made);
+}
+
 -- A merge for each round, from array number `source` on, which has these partial results; each makes the next array, and the last the
 -- node's own.
 abbrev pub merges : Setting → FoldKind → NodeInfo → ℕ → NodeInfo → List Round → List Step
 merges s kind made source partial [] = []
 merges s kind made source partial (r ∷ rs) =
-    record {
-      op = Merge kind r.axis s.split_every source (source + 1);
-      values = None;
-      made = written_before rs (merged r partial) made;
-      need = merge_need s.reserved s.split_every (chunk_bytes made);
-    } ∷ merges s kind made (source + 1) (merged r partial) rs
+    merge_head s kind made source partial r rs ∷ merges s kind made (source + 1) (merged r partial) rs
 
--- the fold, and the merges
+-- the fold, where rounds of merges follow, and the merges
+abbrev pub fold_head : Setting → Reduction → NodeInfo → List Round → Step
+fold_head s x partial rs = record {
+  op = Fold x.kind x.axes x.source s.first;
+  values = None;
+  made = written_before rs partial x.made;
+  need = fold_need s.reserved (chunk_bytes x.from) (chunk_bytes x.made);
+}
+
 abbrev pub folded : Setting → Reduction → NodeInfo → List Round → List Step
 folded s x partial rs =
-    record {
-      op = Fold x.kind x.axes x.source s.first;
-      values = None;
-      made = written_before rs partial x.made;
-      need = fold_need s.reserved (chunk_bytes x.from) (chunk_bytes x.made);
-    } ∷ merges s x.kind x.made s.first partial rs
+    fold_head s x partial rs ∷ merges s x.kind x.made s.first partial rs
 
 abbrev pub reduction_steps : Setting → Reduction → List Step
 reduction_steps s x = folded s x (first_partial x.made.dtype x.axes x.from) (reduction_rounds x.axes s.split_every x.from)

@@ -67,7 +67,7 @@ pub record Keeps (f : ℕ → ℕ) (old new : List ArrayInfo) (k : Kind) : Type 
 pub record IsRenumbered (f : ℕ → ℕ) (k other : Kind) : Type 0 where
   pub reads : other.reads ≡ map f k.reads
   pub writes : other.writes ≡ map f k.writes
-  pub instructions : other.instructions ≡ k.instructions
+  pub kernel : other.kernel ≡ k.kernel
   pub value : (old new : List ArrayInfo) (at others : Elements) (array : ℕ) (idx : List ℕ) → Keeps f old new k → ((a : ℕ) → Contains k.reads a → others (f a) ≡ at a) → Contains k.writes array
       → other.value new others (f array) idx ≡ k.value old at array idx
   pub fits : (old new : List ArrayInfo) → Keeps f old new k → k.fits old → other.fits new

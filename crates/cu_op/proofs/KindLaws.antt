@@ -11,9 +11,13 @@ use Rattle.cu_op.proofs.Kind.PairFold.{pair_fold_laws}
 use Rattle.cu_op.proofs.Kind.PairMerge.{pair_merge_laws}
 use Rattle.cu_op.proofs.Kind.Pull.{pull_laws}
 use Rattle.cu_op.proofs.Kind.Scan.{scan_laws}
+use Rattle.cu_op.specs.Kind.Map.{map_of}
 use Rattle.cu_op.specs.Kinds.{kind_of}
+use Rattle.cu_op.specs.Operation.{kernel_of, reads_of, target_of}
+use Rattle.cu_op.specs.declared.kernel.Instr.{Instr}
 use Rattle.cu_op.specs.declared.operation.Op.{Op}
 use Rattle.cu_op.specs.declared.operation.Op.TheVariants.{Carry, Copy, Fold, GroupFold, Map, Merge, Mul, PairFold, PairMerge, Pull, Scan}
+use Rattle.std.proofs.Common.{◌≡◌, List, [], Option, Some, unwrap_or, ap, refl, subst}
 
 pub laws_of : (op : Op) → Laws (kind_of op)
 laws_of (Map kernel ins out) = map_laws kernel.code.items ins.items out
@@ -27,3 +31,9 @@ laws_of (Mul left right out) = mul_laws left right out
 laws_of (Carry axis group sums above out) = carry_laws axis group sums above out
 laws_of (Scan axis source carry out) = scan_laws axis source carry out
 laws_of (GroupFold kind axis groups source labels out) = group_fold_laws kind axis groups source labels out
+
+-- an operation that has a kernel is the map of it over what the operation reads
+pub map_by_kernel : (op : Op) (code : List Instr) → kernel_of op ≡ Some code → op ≡ map_of code (reads_of op) (target_of op)
+map_by_kernel (Map kernel ins out) code is =
+    subst (λ (c : List Instr). Map kernel ins out ≡ map_of c ins.items out) (ap (λ (o : Option (List Instr)). unwrap_or o []) is) refl
+map_by_kernel op code is = cc

@@ -10,7 +10,7 @@ use Rattle.cu_num.specs.declared.layout.Encoding.TheVariants.{Plain}
 use Rattle.cu_num.specs.declared.layout.Sep.TheVariants.{Slash}
 use Rattle.cu_num.specs.declared.types.Dtype.{Dtype}
 use Rattle.cu_op.proofs.KeyTexts.{keys_differ}
-use Rattle.cu_op.proofs.KindLaws.{laws_of}
+use Rattle.cu_op.proofs.KindLaws.{laws_of, map_by_kernel}
 use Rattle.cu_op.proofs.Plans.{scratch_parts, all_own}
 use Rattle.cu_op.proofs.Rooms.{any_room_few, greatest_few}
 use Rattle.cu_op.specs.Arrays.{array_at, grid_at, maker_at, grid_counts, array_chunk_count, no_array, chunk_room, is_inlined}
@@ -34,7 +34,6 @@ use Rattle.std.proofs.lemmas.Bool.{cases_lt}
 use Rattle.std.proofs.lemmas.List.{length-append, get_or_append_left, get_or_at}
 use Rattle.std.proofs.lemmas.List.Elements.{All-cons, All-nil, All-head, All-tail, All-append}
 use Rattle.std.proofs.lemmas.List.Sums.{sum_by-append, sum_by-cons}
-use Rattle.cu_op.specs.declared.operation.Op.TheVariants.{Map}
 
 -- an array before the last, and the last
 at_input : (inputs : List ArrayInfo) (made : ArrayInfo) (a : ℕ) → a < length inputs → array_at (inputs ++ made ∷ []) a ≡ array_at inputs a
@@ -86,16 +85,16 @@ cells_few inputs made makers few =
 
 -- the operation itself
 writes_last : (op : Op) (array : ℕ) → Makes op array → writes_of op ≡ array ∷ []
-writes_last (Map kernel ins out) array h = ap (λ a. a ∷ []) h
-writes_last op array h = absurd h
+writes_last op array h =
+    let is = map_by_kernel op h.0 h.1 in
+    ap writes_of is ∙ ap (λ a. a ∷ []) h.2
 
 target_last : (op : Op) (array : ℕ) → Makes op array → target_of op ≡ array
-target_last (Map kernel ins out) array h = h
-target_last op array h = absurd h
+target_last op array h = h.2
 
 tasks_last : (op : Op) (arrays : List ArrayInfo) (array : ℕ) → Makes op array → regions_of arrays op ≡ array_chunk_count (array_at arrays array)
-tasks_last (Map kernel ins out) arrays array h = ap (λ a. array_chunk_count (array_at arrays a)) h
-tasks_last op arrays array h = absurd h
+tasks_last op arrays array h =
+    ap (regions_of arrays) (map_by_kernel op h.0 h.1) ∙ ap (λ a. array_chunk_count (array_at arrays a)) h.2
 
 readable_input : (inputs : List ArrayInfo) (made : ArrayInfo) (a : ℕ) → All (λ i. i.maker ≡ None) inputs → a < length inputs → IsReadable (inputs ++ made ∷ []) 0 a
 readable_input inputs made a makers h =
@@ -215,7 +214,7 @@ add_one_map stays inputs made g t i j h =
       result_chunks = subst (λ (r : RegularGrid). product (grid_counts r) ≤ 65536) (sym h.result.grid) h.few_chunks;
       stored = h.stored;
       few = h.few;
-      makes = refl;
+      makes = (Load 0 ∷ Load 1 ∷ Two Add t 0 1 ∷ [], refl, refl);
       reads = All-cons W i (j ∷ []) h.first (All-cons W j [] h.second (All-nil W));
       fits = record {
         inputs = All-cons P i (j ∷ []) (aligned_alike (inputs ++ made ∷ []) g t i (length inputs) a y) (All-cons P j [] (aligned_alike (inputs ++ made ∷ []) g t j (length inputs) b y) (All-nil P));

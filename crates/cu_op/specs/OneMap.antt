@@ -4,21 +4,21 @@ use Rattle.cu_num.specs.Dtype.{IsInteger}
 use Rattle.cu_num.specs.declared.types.Dtype.{Dtype}
 use Rattle.cu_num.specs.declared.functions.Fn2.TheVariants.{Add}
 use Rattle.cu_grid.specs.Grid.{RegularGrid}
+use Rattle.cu_op.specs.declared.kernel.Instr.{Instr}
 use Rattle.cu_op.specs.declared.kernel.Instr.TheVariants.{Load, Two}
 use Rattle.cu_num.specs.declared.layout.Encoding.TheVariants.{Plain}
 use Rattle.cu_num.specs.declared.layout.Sep.TheVariants.{Slash}
 use Rattle.cu_op.specs.declared.layout.ArrayInfo.{ArrayInfo}
 use Rattle.cu_op.specs.declared.operation.Op.{Op}
-use Rattle.cu_op.specs.declared.operation.Op.TheVariants.{Map}
+use Rattle.cu_op.specs.Kind.Map.{map_of}
 use Rattle.cu_op.specs.Arrays.{grid_counts, array_chunk_count}
 use Rattle.cu_shape.specs.Index.{product}
 use Rattle.cu_op.specs.Layout.{IsArray}
-use Rattle.cu_op.specs.Operation.{reads_of, Fits}
+use Rattle.cu_op.specs.Operation.{reads_of, kernel_of, target_of, Fits}
 
 -- the operation is a map that makes this array
 abbrev pub Makes : Op → ℕ → Type 0
-Makes (Map kernel ins out) array = out ≡ array
-Makes op array = ⊥
+Makes op array = (code : List Instr) × (kernel_of op ≡ Some code) × (target_of op ≡ array)
 
 -- inputs, and an array that a map makes of them
 pub record OneMap (inputs : List ArrayInfo) (made : ArrayInfo) (op : Op) : Type 0 where
@@ -37,7 +37,7 @@ pub record OneMap (inputs : List ArrayInfo) (made : ArrayInfo) (op : Op) : Type 
 
 -- the sum of the arrays i and j
 abbrev pub addition_of : Dtype → ℕ → ℕ → ℕ → Op
-addition_of t i j out = Map (record { code = record { items = Load 0 ∷ Load 1 ∷ Two Add t 0 1 ∷ [] } }) (record { items = i ∷ j ∷ [] }) out
+addition_of t i j out = map_of (Load 0 ∷ Load 1 ∷ Two Add t 0 1 ∷ []) (i ∷ j ∷ []) out
 
 -- an array with this grid and type
 pub record HasGridAndType (g : RegularGrid) (t : Dtype) (a : ArrayInfo) : Type 0 where

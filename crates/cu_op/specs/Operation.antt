@@ -2,6 +2,7 @@
 use Rattle.cu_op.specs.Arrays.{maker_at, grid_at}
 use Rattle.cu_op.specs.Form.{Form}
 use Rattle.cu_op.specs.Kinds.{kind_of}
+use Rattle.cu_op.specs.declared.kernel.Instr.{Instr}
 use Rattle.cu_op.specs.declared.layout.ArrayInfo.{ArrayInfo}
 use Rattle.cu_op.specs.declared.operation.Op.{Op}
 use Rattle.std.specs.Prelude.{◌≡◌, ℕ, ◌<◌, ◌≤◌, Bool, List, length, Option, None, Some, IsTrue}
@@ -16,6 +17,10 @@ writes_of op = (kind_of op).writes
 -- the array that the tasks go over: the last that it writes
 abbrev pub target_of : Op → ℕ
 target_of op = (kind_of op).target
+
+-- the kernel of a map; no other operation has one
+abbrev pub kernel_of : Op → Option (List Instr)
+kernel_of op = (kind_of op).kernel
 
 -- each of its tasks writes one chunk, and nothing else
 abbrev pub writes_one_chunk : Op → Bool

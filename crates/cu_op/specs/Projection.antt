@@ -2,13 +2,14 @@
 -- 512 for each kernel instruction, which is 64 words (this project's rule).
 use Rattle.cu_op.specs.Arrays.{chunk_room}
 use Rattle.cu_op.specs.Kinds.{kind_of}
-use Rattle.cu_op.specs.Operation.{writes_of, reads_of}
+use Rattle.cu_op.specs.Operation.{writes_of, reads_of, kernel_of}
 use Rattle.cu_op.specs.PlanView.{PlanView, op_of}
 use Rattle.cu_op.specs.Within.{ops_within}
+use Rattle.cu_op.specs.declared.kernel.Instr.{Instr}
 use Rattle.cu_op.specs.declared.layout.ArrayInfo.{ArrayInfo}
 use Rattle.cu_op.specs.declared.operation.Op.{Op}
 use Rattle.cu_shape.specs.Counts.{largest}
-use Rattle.std.specs.Prelude.{ℕ, ◌+◌, ◌*◌, List, ◌++◌, map, sum_by}
+use Rattle.std.specs.Prelude.{ℕ, ◌+◌, ◌*◌, List, ◌++◌, length, map, Option, None, Some, sum_by}
 
 -- the greatest chunk of an array that the operation reads or writes
 abbrev pub scratch_room : List ArrayInfo → Op → ℕ
@@ -22,8 +23,13 @@ input_room arrays op = (kind_of op).input_room arrays
 abbrev pub output_room : List ArrayInfo → Op → ℕ
 output_room arrays op = (kind_of op).output_room arrays
 
+-- the instructions of a kernel, where there is one
+abbrev pub kernel_length : Option (List Instr) → ℕ
+kernel_length None = 0
+kernel_length (Some code) = length code
+
 abbrev pub instruction_count : Op → ℕ
-instruction_count op = (kind_of op).instructions
+instruction_count op = kernel_length (kernel_of op)
 
 -- of an operation alone
 abbrev pub own_projection : List ArrayInfo → ℕ → Op → ℕ

@@ -1,14 +1,16 @@
 //! What goes by the kind of an operation.
-ghost use Rattle.std.specs.Prelude.{◌≡◌, ◌^◌, ◌<◌, ◌≤◌, ◌∷◌, [], All, length, map, pred};
+ghost use Rattle.std.specs.Prelude.{◌≡◌, ◌^◌, ◌<◌, ◌≤◌, ◌∷◌, [], All, IfSome, None, Some, length, map, pred};
 ghost use Rattle.cu_shape.specs.Index.{IsInside};
 ghost use Rattle.cu_grid.specs.Grid.{IsGrid};
 ghost use Rattle.cu_op.specs.Along.{carried_reads};
 ghost use Rattle.cu_op.specs.Cells.{task_grid};
 ghost use Rattle.cu_op.specs.KindText.{kind_text};
+ghost use Rattle.cu_op.specs.Kind.Map.{map_of};
 ghost use Rattle.cu_op.specs.Kinds.{ReducesToValues, ReducesToPlaces};
 ghost use Rattle.cu_op.specs.Numbers.{number_in};
 ghost use Rattle.cu_op.specs.Operation.{Fits, reads_by_chunk, reads_of, writes_of, target_of};
-ghost use Rattle.cu_op.specs.Operation.{compared_array, renumbered, value_array, writes_one_chunk};
+ghost use Rattle.cu_op.specs.Operation.{compared_array, kernel_of, renumbered, value_array};
+ghost use Rattle.cu_op.specs.Operation.{writes_one_chunk};
 ghost use Rattle.cu_op.specs.Projection.{input_room, output_room, instruction_count};
 ghost use Rattle.cu_op.specs.Walks.{region_walks};
 
@@ -35,6 +37,13 @@ use arrayvec::{ArrayString, ArrayVec};
 use cu_grid::{Grid, Region};
 
 impl Op {
+    /// The map of this kernel over these arrays into another.
+    pub fn map_of(kernel: Kernel, ins: ArrayVec<u32, 8>, out: u32) -> Op
+        ensures { result ≡ map_of kernel.code.items ins.items out }
+    {
+        Op::Map { kernel, ins, out }
+    }
+
     /// The arrays that it reads, in order; one that it reads twice stands twice.
     pub fn reads(&self) -> ArrayVec<u32, 8>
         ensures { result.items ≡ reads_of self.now }
@@ -132,14 +141,26 @@ impl Op {
         }
     }
 
+    /// The kernel of a map; no other operation has one.
+    pub fn kernel(&self) -> Option<&Kernel>
+        ensures kernel { IfSome result
+            (λ kernel. kernel_of self.now ≡ Some kernel.now.code.items) }
+        ensures none { result ≡ None → kernel_of self.now ≡ None }
+    {
+        match self {
+            Op::Map { kernel, .. } => Some(kernel),
+            _ => None,
+        }
+    }
+
     /// The number of steps of its kernel, 0 where it has none.
     pub fn steps(&self) -> u32
         ensures count { result ≡ instruction_count self.now }
         ensures few { result ≤ 32 }
     {
-        match self {
-            Op::Map { kernel, .. } => kernel.code.len() as u32,
-            _ => 0,
+        match self.kernel() {
+            Some(kernel) => kernel.code.len() as u32,
+            None => 0,
         }
     }
 

@@ -1,6 +1,6 @@
 -- A task of a copy that goes by chunks: what it reads, the values that its parts spell, and the puts of its chunks.
 use Rattle.std.proofs.Common.{◌≡◌, inl, inr, ℕ, suc, ◌+◌, ◌*◌, ◌^◌, ◌<◌, ◌≤◌, List, [], ◌∷◌, length, All, Contains, Some, refl, sym, ap, ◌∙◌, subst, arith}
-use Rattle.std.specs.Prelude.{slice_index_or, sum_by}
+use Rattle.std.specs.Prelude.{sum_by}
 use Rattle.std.proofs.lemmas.List.{length-map}
 use Rattle.std.proofs.lemmas.List.Sums.{sum_by-cons}
 use Rattle.cu_num.specs.Dtype.{size_of}
@@ -14,22 +14,17 @@ use Rattle.cu_store.specs.Held.{Contents, Holds, IsAmong}
 use Rattle.cu_store.specs.Steps.{Shown, Steps, Within}
 use Rattle.cu_store.proofs.Steps.{steps_same, steps_then, steps_wider}
 use Rattle.cu_op.specs.Arrays.{no_array, array_at, grid_at, type_at, layout_at}
-use Rattle.cu_op.specs.Cells.{task_lo, task_hi}
 use Rattle.cu_op.specs.Chunks.{cell, walk}
 use Rattle.cu_op.specs.Elements.{Elements}
-use Rattle.cu_op.specs.Operation.{target_of, writes_of}
 use Rattle.cu_op.specs.Schedule.{key_of, cell_value}
 use Rattle.cu_op.specs.Sound.{Sound}
 use Rattle.cu_op.specs.TaskView.{TaskView, task_op, walk_at}
-use Rattle.cu_op.specs.Value.{plan_value, rule, stored_inputs}
-use Rattle.cu_op.specs.Walks.{input_walks, written_chunks, IsWalkOver}
+use Rattle.cu_op.specs.Value.{plan_value, stored_inputs}
+use Rattle.cu_op.specs.Walks.{written_chunks, IsWalkOver}
 use Rattle.cu_op.specs.Within.{with_inlined}
 use Rattle.cu_op.specs.declared.cells.Cell.{Cell}
 use Rattle.cu_op.specs.declared.layout.ArrayInfo.{ArrayInfo}
-use Rattle.cu_op.specs.declared.operation.Op.{Op}
-use Rattle.cu_op.specs.declared.operation.Op.TheVariants.{Copy}
 use Rattle.cu_op.specs.declared.walks.Walk.{Walk}
-use Rattle.cu_op.proofs.Operations.{Fit}
 use Rattle.cu_op.proofs.Spellings.{spelled_alike}
 use Rattle.cu_op.proofs.CellsOfTasks.{coordinates_small}
 use Rattle.cu_op.proofs.TaskCells.{fit_of, ready_rule, region_lengths}
@@ -41,10 +36,11 @@ use Rattle.cu_region.specs.Writing.{buffer_element, chunk_value, HasWholeChunks,
 use Rattle.cu_region.proofs.SteadyKeys.{first_or_rest}
 use Rattle.cu_task.proofs.ChunkParts.{one_covers, parts_for_all, parts_more, HeldSoFar, WritesSoFar}
 use Rattle.cu_task.proofs.ChunkRegions.{meets_one, region_small, whole_chunk}
-use Rattle.cu_task.proofs.CopyTask.{copies_whole, copy_walk}
+use Rattle.cu_task.proofs.CopyTask.{copy_walk}
 use Rattle.cu_task.proofs.Inside.{own_key, read_of, stored_read}
 use Rattle.cu_task.proofs.InputReads.{all_made, still_first, walk_tally}
-use Rattle.cu_task.proofs.TaskRegions.{copied, only_calls, only_tally, scratch_written, target_written, written_in, Written}
+use Rattle.cu_task.proofs.TaskKinds.{of_copy}
+use Rattle.cu_task.proofs.TaskRegions.{only_calls, only_tally, scratch_written, target_written, written_in, Written}
 use Rattle.cu_task.proofs.TaskSteps.{late_value, only_array, steady_reads, still_holds, written_at}
 use Rattle.cu_task.specs.ChunkCopies.{made_chunks, made_info, made_number, own_lo, own_hi, part_lo, part_hi, part_room, room_of_parts, CarriesPart, HasEachPart, HoldsPart, IsChunkCopy, ReadsParts}
 use Rattle.cu_task.specs.Inputs.{IsWalkKey}
@@ -87,30 +83,17 @@ module _ (t : TaskView) (s : Sound t.plan) where
 
   pub chunk_copy : (w : Walk) → IsCopy (task_op t) → w ≡ walk_at t 0 → IsWalkOver t.plan.arrays w → IsChunkCopy t w
   chunk_copy w is at over =
-      let copy = copied (task_op t) is in
-      let operation = Copy copy.region copy.source copy.out in
-      let fit = subst (Fit t.plan.arrays t.op) copy.is (fit_of t.plan s t.op t.operation) in
-      let same : w ≡ walk copy.source (task_lo t.plan.arrays operation t.number) (task_hi t.plan.arrays operation t.number)
-      = at ∙ ap (λ (o : Op). slice_index_or (input_walks t.plan.arrays o t.number) 0 (walk 0 [] [])) copy.is in
+      let copy = (copy_walk t.plan t.op t.number w s t.operation is at).copy in
       record {
         sound = s;
         reads = over;
         makes = made.over;
-        shape = ap (λ (v : Walk). (grid_at t.plan.arrays v.array).shape) same ∙ fit.2.shape ∙ ap (λ (o : Op). (grid_at t.plan.arrays (target_of o)).shape) (sym copy.is);
-        types = ap (λ (v : Walk). type_at t.plan.arrays v.array) same ∙ fit.2.types ∙ ap (λ (o : Op). type_at t.plan.arrays (target_of o)) (sym copy.is);
-        lo = ap (λ (v : Walk). v.region.lo) same ∙ ap (λ (o : Op). task_lo t.plan.arrays o t.number) (sym copy.is);
-        hi = ap (λ (v : Walk). v.region.hi) same ∙ ap (λ (o : Op). task_hi t.plan.arrays o t.number) (sym copy.is);
+        shape = copy.shape;
+        types = copy.types;
+        lo = copy.lo;
+        hi = copy.hi;
         whole = made.whole;
       }
-
-  -- the rule of a copy is the array that is read, and that is stored
-  copies : (w : Walk) → IsCopy (task_op t) → w ≡ walk_at t 0 → (at : Elements) (idx : List ℕ) → rule (task_op t) t.plan.arrays at (made_number t) idx ≡ at w.array idx
-  copies w is from at idx =
-      let copy = copied (task_op t) is in
-      let operation = Copy copy.region copy.source copy.out in
-      let same : w ≡ walk copy.source (task_lo t.plan.arrays operation t.number) (task_hi t.plan.arrays operation t.number)
-      = from ∙ ap (λ (o : Op). slice_index_or (input_walks t.plan.arrays o t.number) 0 (walk 0 [] [])) copy.is in
-      ap (λ (o : Op). rule o t.plan.arrays at (target_of o) idx) copy.is ∙ ap (λ (v : Walk). at v.array idx) (sym same)
 
   -- a part that has what is held spells the value of its chunk, where the task was ready
   carries_part : (w : Walk) (is : IsCopy (task_op t)) (from : w ≡ walk_at t 0) (start : Shown) (coord own : List ℕ) → Contains (made_chunks t) coord
@@ -118,14 +101,14 @@ module _ (t : TaskView) (s : Sound t.plan) where
       → type_at t.plan.arrays w.array ≡ (made_info t).layout.dtype → CarriesPart t start coord own
   carries_part w is from start coord own there reads types env ready =
       let walked = copy_walk t.plan t.op t.number w s t.operation is from in
-      let kept = stored_read t.plan s t.op w.array t.operation (read_of t.plan s t.op t.number w walked.listed) (copies_whole t.plan.arrays (task_op t) is w.array) in
+      let kept = stored_read t.plan s t.op w.array t.operation (read_of t.plan s t.op t.number w walked.listed) (walked.copy.whole w.array) in
       let m = made_chunk coord there in
       spelled_alike (layout_at t.plan.arrays (made_number t)) (buffer_element (made_info t).layout.dtype (part_lo t coord) (part_hi t coord) own) (plan_value t.plan env (made_number t)) coord made.grid m.0
       (λ idx here.
       let held : stored_inputs t.plan.arrays ready.held w.array idx ≡ buffer_element (made_info t).layout.dtype (part_lo t coord) (part_hi t coord) own idx
       = reads env ready idx here ∙ ap (λ d. buffer_element d (part_lo t coord) (part_hi t coord) own idx) types in
       sym held ∙ sym (inlined_kept t.plan (stored_inputs t.plan.arrays ready.held) w.array idx s kept)
-      ∙ sym (copies w is from (with_inlined t.plan (stored_inputs t.plan.arrays ready.held)) idx)
+      ∙ sym (walked.copy.value (with_inlined t.plan (stored_inputs t.plan.arrays ready.held)) idx)
       ∙ ready_rule t.plan s t.op t.number (made_number t) env ready.held coord idx ready.inputs (record { operation = t.operation; number = t.within; cell = made.written coord m }) here)
 
   pub carries_parts : (w : Walk) → IsCopy (task_op t) → w ≡ walk_at t 0 → type_at t.plan.arrays w.array ≡ (made_info t).layout.dtype → (start : Shown) (buf : List ℕ) → room_of_parts t (made_chunks t) ≤ length buf
@@ -192,8 +175,8 @@ module _ (t : TaskView) (s : Sound t.plan) where
   -- all are
   pub made_cell : IsCopy (task_op t) → (c : Cell) → Contains (written_chunks t.plan.arrays (task_op t) t.number) c → (c.array ≡ made_number t) × Contains (made_chunks t) c.coord
   made_cell is c there =
-      let copy = copied (task_op t) is in
-      let only : c.array ≡ made_number t = only_array t.plan s t.op t.number t.operation t.within (made_number t) (ap writes_of copy.is ∙ ap (λ (o : Op). target_of o ∷ []) (sym copy.is)) c there in
+      let copy = of_copy t.plan t.op (task_op t) t.number (fit_of t.plan s t.op t.operation) is in
+      let only : c.array ≡ made_number t = only_array t.plan s t.op t.number t.operation t.within (made_number t) copy.writes c there in
       (only, chunk_made c.coord (subst (λ (b : ℕ). Meets (grid_at t.plan.arrays b) (own_lo t) (own_hi t) c.coord) only (written_at t.plan s t.op t.number t.operation t.within c there).1))
 
   pub holds_all : IsCopy (task_op t) → (env : Elements) (new : Shown) → ((coord : List ℕ) → Contains (made_chunks t) coord → HoldsPart t env new coord) → HoldsMade t env new
@@ -232,15 +215,15 @@ module _ (t : TaskView) (s : Sound t.plan) where
   -- the chunks that the task writes are those of the parts
   pub written_calls : IsCopy (task_op t) → calls_to_write t ≡ length (made_chunks t)
   written_calls is =
-      let copy = copied (task_op t) is in
-      only_calls t.plan.arrays (task_op t) t.number (ap (λ (o : Op). writes_of o) copy.is ∙ ap (λ (o : Op). target_of o ∷ []) (sym copy.is))
+      let copy = of_copy t.plan t.op (task_op t) t.number (fit_of t.plan s t.op t.operation) is in
+      only_calls t.plan.arrays (task_op t) t.number copy.writes
       ∙ length-map (made_chunks t) (cell (made_number t))
 
   pub written_tally : (weight : List ℕ → ℕ) → IsCopy (task_op t) → region_tally weight (made_info t) (own_lo t) (own_hi t) ≡ tally_to_write weight t
   written_tally weight is =
-      let copy = copied (task_op t) is in
+      let copy = of_copy t.plan t.op (task_op t) t.number (fit_of t.plan s t.op t.operation) is in
       walk_tally weight t.plan.arrays (walk (made_number t) (own_lo t) (own_hi t)) (made_info t) refl
-      ∙ sym (only_tally (weight_in weight t.plan.arrays) t.plan.arrays (task_op t) t.number (ap (λ (o : Op). writes_of o) copy.is ∙ ap (λ (o : Op). target_of o ∷ []) (sym copy.is)))
+      ∙ sym (only_tally (weight_in weight t.plan.arrays) t.plan.arrays (task_op t) t.number copy.writes)
 
   -- the sizes of a part
   pub part_ranks : (coord : List ℕ) → IsCoordinate (made_info t).layout.grid coord → length (part_hi t coord) ≡ length (part_lo t coord)

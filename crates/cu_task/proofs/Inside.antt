@@ -25,9 +25,7 @@ use Rattle.cu_op.specs.Value.{rule, stored_inputs}
 use Rattle.cu_op.specs.Walks.{cells_of_walks, input_walks, new_walks, read_chunks, walk_cells, IsWalkOver}
 use Rattle.cu_op.specs.Within.{chunks_deep, fetched_chunks, made_by, maker_op, ops_deep, ops_within, with_inlined}
 use Rattle.cu_op.specs.declared.cells.Cell.{Cell}
-use Rattle.cu_op.specs.declared.layout.ArrayInfo.{ArrayInfo}
 use Rattle.cu_op.specs.declared.operation.Op.{Op}
-use Rattle.cu_op.specs.declared.operation.Op.TheVariants.{Pull}
 use Rattle.cu_op.specs.declared.walks.Walk.{Walk}
 use Rattle.cu_region.proofs.StoredReads.{meets_own}
 use Rattle.cu_region.specs.Reading.{ReadsRegion}
@@ -38,10 +36,11 @@ use Rattle.cu_store.specs.Held.{Contents}
 use Rattle.cu_store.specs.Steps.{Shown}
 use Rattle.cu_store.specs.declared.faults.TaskFault.{TaskFault}
 use Rattle.cu_store.specs.declared.faults.TaskFault.TheVariants.{BadChunk, NoMemory, Store}
+use Rattle.cu_task.proofs.TaskKinds.{sums_alike, tally_alike}
 use Rattle.cu_task.proofs.TaskRegions.{written_in}
-use Rattle.cu_task.specs.Calls.{calls_by, chunk_calls, chunk_tally, read_calls, read_tally, tally_by, MakesSureCalls, HasSureCalls}
+use Rattle.cu_task.specs.Calls.{chunk_calls, chunk_tally, read_calls, read_tally, tally_by, MakesSureCalls, HasSureCalls}
 use Rattle.cu_task.specs.Inputs.{HasRegion, IsWalkFault, IsWalkKey}
-use Rattle.cu_task.specs.Task.{ops_inside, steps_within, work_room, HasResult, IsComputing, IsTaskFault, IsTaskKey}
+use Rattle.cu_task.specs.Task.{ops_inside, steps_within, work_room, HasResult, IsTaskFault, IsTaskKey}
 use Rattle.cu_zarr.specs.Stored.{element_in}
 use Rattle.std.proofs.Common.{◌≡◌, inl, inr, ℕ, zero, suc, ◌<◌, ◌≤◌, ◌+◌, ◌*◌, ◌^◌, true, false, List, [], ◌∷◌, length, map, drop, All, Contains, Option, Some, None, get_or, refl, ap, sym, ◌∙◌, subst, arith, if◌then◌else◌}
 use Rattle.std.proofs.lemmas.List.Elements.{All-contains, All-contains_itself}
@@ -76,14 +75,6 @@ sum_of_one f g (y ∷ ys) x (suc k, l, e) =
     let rest = sum_of_one f g ys x (k, omega arith, e) in
     omega (arith, both, rest)
 
-sums_alike : (f g : Cell → ℕ) (cs : List Cell) → ((c : Cell) → Contains cs c → f c ≡ g c)
-    → sum_by f cs ≡ sum_by g cs
-sums_alike f g [] h = refl
-sums_alike f g (c ∷ cs) h =
-    let own = h c (0, omega arith, refl) in
-    let rest = sums_alike f g cs (λ d there. h d (suc there.0, (let l = there.1 in omega arith), there.2)) in
-    sum_by-cons f c cs ∙ ap (λ (n : ℕ). n + sum_by f cs) own ∙ ap (λ (n : ℕ). g c + n) rest ∙ sym (sum_by-cons g c cs)
-
 pub ones : (f : Cell → ℕ) (cs : List Cell) → ((c : Cell) → Contains cs c → f c ≡ 1) → sum_by f cs ≡ length cs
 ones f [] h = refl
 ones f (c ∷ cs) h =
@@ -93,23 +84,6 @@ ones f (c ∷ cs) h =
     omega (arith, own, rest, first)
 
 -- ---- calls
-
--- they depend on what a chunk takes that is read
-tally_alike : (weight f g : Cell → ℕ) (arrays : List ArrayInfo) (op : Op) (task : ℕ)
-    → ((c : Cell) → Contains (cells_of_walks arrays (input_walks arrays op task)) c → f c ≡ g c)
-    → tally_by weight f arrays op task ≡ tally_by weight g arrays op task
-tally_alike weight f g arrays (Pull pull ins out) task h = refl
-tally_alike weight f g arrays op task h = sums_alike f g (cells_of_walks arrays (input_walks arrays op task)) h
-
--- of an operation that computes from regions
-pub computed_tally : (weight f : Cell → ℕ) (arrays : List ArrayInfo) (op : Op) (task : ℕ) → IsComputing op
-    → tally_by weight f arrays op task ≡ sum_by f (cells_of_walks arrays (input_walks arrays op task))
-computed_tally weight f arrays (Pull pull ins out) task computing = absurd computing
-computed_tally weight f arrays op task computing = refl
-
-pub computed_calls : (f : Cell → ℕ) (arrays : List ArrayInfo) (op : Op) (task : ℕ) → IsComputing op
-    → calls_by f arrays op task ≡ sum_by f (cells_of_walks arrays (input_walks arrays op task))
-computed_calls f arrays op task computing = computed_tally (λ c. 1) f arrays op task computing
 
 -- a chunk of a stored array adds its weight, and takes one
 pub stored_weight : (weight : Cell → ℕ) (p : PlanView) (n : ℕ) (c : Cell) → is_inlined p.arrays c.array ≡ false → chunk_tally weight p n c ≡ weight c

@@ -11,13 +11,14 @@ use Rattle.cu_num.specs.declared.layout.Endian.TheVariants.{Little}
 use Rattle.cu_num.specs.declared.types.Dtype.{Dtype}
 use Rattle.cu_op.proofs.Operations.{Fit}
 use Rattle.cu_op.proofs.TaskCells.{fit_of, region_lengths}
-use Rattle.cu_op.specs.Arrays.{grid_at, type_at}
+use Rattle.cu_op.specs.Arrays.{grid_at, grid_counts, type_at}
 use Rattle.cu_op.specs.Cells.{regions_of, task_lo, task_hi}
 use Rattle.cu_op.specs.Chunks.{walk}
 use Rattle.cu_op.specs.Elements.{Elements}
 use Rattle.cu_op.specs.Operation.{target_of, value_array}
 use Rattle.cu_op.specs.Partial.{partial_indices}
 use Rattle.cu_op.specs.PlanView.{PlanView}
+use Rattle.cu_op.specs.Reductions.{FoldFits, IsMergeAlong}
 use Rattle.cu_op.specs.Sound.{Sound}
 use Rattle.cu_op.specs.TaskView.{TaskView, task_op, walk_at}
 use Rattle.cu_op.specs.Value.{rule}
@@ -25,7 +26,6 @@ use Rattle.cu_op.specs.Walks.{cells_of_walks, input_walks, walk_cells, IsWalkOve
 use Rattle.cu_op.specs.declared.cells.Cell.{Cell}
 use Rattle.cu_op.specs.declared.layout.ArrayInfo.{ArrayInfo}
 use Rattle.cu_op.specs.declared.operation.Op.{Op}
-use Rattle.cu_op.specs.declared.operation.Op.TheVariants.{Merge}
 use Rattle.cu_op.specs.declared.walks.Walk.{Walk}
 use Rattle.cu_reduce.specs.Folds.{fold_of, reduced_to}
 use Rattle.cu_reduce.specs.Groups.{group_indices}
@@ -40,36 +40,29 @@ use Rattle.cu_task.specs.Merges.{place_by_parts, without, StandsByParts, MergesP
 use Rattle.cu_task.specs.OfTask.{calls_to_read, cell_weight, tally_to_read, weight_of_walk}
 use Rattle.cu_task.specs.Task.{IsComputing}
 use Rattle.cu_task.specs.declared.merges.PartMerge.{PartMerge}
-use Rattle.cu_task.proofs.Inside.{computed_calls, computed_tally, stored_calls, stored_tally}
+use Rattle.cu_task.proofs.Inside.{stored_calls, stored_tally}
 use Rattle.cu_task.proofs.PartGroups.{axis_groups, results_count, rows_of, HasMerged}
+use Rattle.cu_task.proofs.PartialTasks.{result_lo, result_hi}
 use Rattle.cu_task.proofs.PartialValues.{number_at, reduced_given}
 use Rattle.cu_task.proofs.PullTask.{box_back}
 use Rattle.cu_task.proofs.ReductionTask.{source_walk, source_over, source_rank, count_is, kind_enough, are_elements, has_element, index, index_inside, map_is}
-use Rattle.cu_task.proofs.TaskRooms.{merge_parts, Parts}
+use Rattle.cu_task.proofs.TaskKinds.{computed_calls, computed_tally}
+use Rattle.cu_task.proofs.TaskRooms.{merge_parts, merged, Merged, Parts}
 use Rattle.cu_task.proofs.ViewChunks.{within_box}
 
 -- ---- what any merge is
 
-record IsMerge (op : Op) (m : PartMerge) : Type 0 where
-  group : ℕ
-  source : ℕ
-  is : op ≡ Merge m.kind m.axis group source m.out
-
-is_merge : (op : Op) (m : PartMerge) → IsMergeOf op m.kind m.axis m.out → IsMerge op m
-is_merge (Merge kind axis group source out) m is = record { group = group; source = source; is = rw (is.0, is.1, is.2) refl }
-is_merge op m is = absurd is
+of_merge : (op : Op) (m : PartMerge) → IsMergeOf op m.kind m.axis m.out → Merged op m.kind m.axis m.out
+of_merge op m is = merged op m.kind m.axis m.out is
 
 pub merge_computes : (op : Op) (m : PartMerge) → IsMergeOf op m.kind m.axis m.out → IsComputing op
-merge_computes (Merge kind axis group source out) m is = tt
-merge_computes op m is = absurd is
+merge_computes op m is = subst IsComputing (sym (of_merge op m is).is) tt
 
 pub merge_stores : (op : Op) (m : PartMerge) → IsMergeOf op m.kind m.axis m.out → None ≡ value_array op
-merge_stores (Merge kind axis group source out) m is = refl
-merge_stores op m is = absurd is
+merge_stores op m is = sym (ap value_array (of_merge op m is).is)
 
 one_region : (arrays : List ArrayInfo) (op : Op) (task : ℕ) (m : PartMerge) → IsMergeOf op m.kind m.axis m.out → input_walks arrays op task ≡ slice_index_or (input_walks arrays op task) 0 (walk 0 [] []) ∷ []
-one_region arrays (Merge kind axis group source out) task m is = refl
-one_region arrays op task m is = absurd is
+one_region arrays op task m is = subst (λ (o : Op). input_walks arrays o task ≡ slice_index_or (input_walks arrays o task) 0 (walk 0 [] []) ∷ []) (sym (of_merge op m is).is) refl
 
 -- it reads one region
 pub reads_one : (t : TaskView) (m : PartMerge) → IsMergeOf (task_op t) m.kind m.axis m.out → input_walks t.plan.arrays (task_op t) t.number ≡ walk_at t 0 ∷ []
@@ -111,72 +104,92 @@ pub record TaskMerge (p : PlanView) (op : Op) (task : ℕ) (m : PartMerge) (w : 
   pub elements : (element : List ℕ → ℤ) (output : List ℕ) → length output ≡ product (differences (task_hi p.arrays op task) (task_lo p.arrays op task)) * size_of (type_at p.arrays (target_of op))
       → HasMerged m.kind (type_at p.arrays m.out) m.axis (sizes_of w) element output → AreElements (type_at p.arrays (target_of op)) output
 
-module _ (p : PlanView) (s : Sound p) (k task : ℕ) (kind : FoldKind) (axis group source out : ℕ) (fit : Fit p.arrays k (Merge kind axis group source out)) (h : task < regions_of p.arrays (Merge kind axis group source out)) where
+module _ (p : PlanView) (s : Sound p) (k task : ℕ) (kind : FoldKind) (axis out : ℕ) (op : Op) (m : Merged op kind axis out) (fit : Fit p.arrays k op) (within : task < regions_of p.arrays op) where
   abbrev group_sizes : List ℕ
-  group_sizes = map (λ n. group) (grid_at p.arrays source).shape
+  group_sizes = map (λ n. m.group) (grid_at p.arrays m.source).shape
 
-  abbrev parts : Parts p (axis_groups axis group_sizes) source out
-  parts = merge_parts p s axis group source out (fit.0 0 0 (omega arith)).0 (fit.1 0 0 (omega arith)).0 fit.2.0.some fit.2.1.result
+  -- what is asked of it
+  source_in : m.source < length p.arrays
+  source_in = let own = subst (Fit p.arrays k) m.is fit in (own.0 0 0 (omega arith)).0
+
+  out_in : out < length p.arrays
+  out_in = let own = subst (Fit p.arrays k) m.is fit in (own.1 0 0 (omega arith)).0
+
+  goes_along : IsMergeAlong p.arrays axis m.group m.source
+  goes_along = let own = subst (Fit p.arrays k) m.is fit in own.2.0
+
+  folds : FoldFits p.arrays kind (axis_groups axis group_sizes) m.source out
+  folds = let own = subst (Fit p.arrays k) m.is fit in own.2.1
+
+  typed : type_at p.arrays m.source ≡ type_at p.arrays out
+  typed = let own = subst (Fit p.arrays k) m.is fit in own.2.2
+
+  h : task < product (grid_counts (grid_at p.arrays out))
+  h = subst (λ (o : Op). task < regions_of p.arrays o) m.is within
+
+  abbrev parts : Parts p (axis_groups axis group_sizes) m.source out
+  parts = merge_parts p s axis m.group m.source out source_in out_in goes_along.some folds.result
 
   abbrev own_walk : Walk
-  own_walk = source_walk p (λ d. d == axis) group_sizes source out task parts h
+  own_walk = source_walk p (λ d. d == axis) group_sizes m.source out task parts h
 
-  abbrev operation : Op
-  operation = Merge kind axis group source out
+  abbrev lo : List ℕ
+  lo = result_lo (grid_at p.arrays out) task
+
+  abbrev hi : List ℕ
+  hi = result_hi (grid_at p.arrays out) task
 
   abbrev made : PartMerge
   made = record { kind = kind; axis = axis; out = out }
 
   axis_in : axis < length (sizes_of own_walk)
   axis_in =
-      let rank = source_rank p (λ d. d == axis) group_sizes source out task parts h in
-      let along = fit.2.0.along in
+      let rank = source_rank p (λ d. d == axis) group_sizes m.source out task parts h in
+      let along = goes_along.along in
       omega (arith, rank, along)
 
-  results : product (without axis (sizes_of own_walk)) ≡ product (differences (task_hi p.arrays operation task) (task_lo p.arrays operation task))
-  results = sym (results_count axis (sizes_of own_walk) axis_in) ∙ count_is p (λ d. d == axis) group_sizes source out task parts h
+  results : product (without axis (sizes_of own_walk)) ≡ product (differences hi lo)
+  results = sym (results_count axis (sizes_of own_walk) axis_in) ∙ count_is p (λ d. d == axis) group_sizes m.source out task parts h
+
+  input_long : room_of_walks p.arrays (own_walk ∷ []) ≡ product (sizes_of own_walk) * size_of (type_at p.arrays out)
+  input_long = rw (sym typed) (omega arith)
 
   -- what the rule gives is the reduction of the elements, by their places in the buffer
-  merged_is : (t : Dtype) (at : Elements) (input output : List ℕ) → t ≡ type_at p.arrays source → StandsByParts (type_at p.arrays source) (at source) axis own_walk.region input
+  merged_is : (t : Dtype) (at : Elements) (input output : List ℕ) → t ≡ type_at p.arrays m.source → StandsByParts (type_at p.arrays m.source) (at m.source) axis own_walk.region input
       → HasMerged kind t axis (sizes_of own_walk) (part_element t axis (sizes_of own_walk) input) output
-      → (idx : List ℕ) → IsWithin (task_lo p.arrays operation task) (task_hi p.arrays operation task) idx
-      → reduced_to kind t (map (at source) (partial_indices p.arrays (axis_groups axis group_sizes) source out idx)) ≡ buffer_element t (task_lo p.arrays operation task) (task_hi p.arrays operation task) output idx
+      → (idx : List ℕ) → IsWithin lo hi idx
+      → reduced_to kind t (map (at m.source) (partial_indices p.arrays (axis_groups axis group_sizes) m.source out idx)) ≡ buffer_element t lo hi output idx
   merged_is t at input output same reads has idx w =
-      let over = source_over p (λ d. d == axis) group_sizes source out task parts h in
+      let over = source_over p (λ d. d == axis) group_sizes m.source out task parts h in
       let element : List ℕ → ℤ = part_element t axis (sizes_of own_walk) input in
-      let at_index = index p (λ d. d == axis) group_sizes source out task parts h idx in
-      let inside = index_inside p (λ d. d == axis) group_sizes source out task parts h idx w in
-      let each : (i : List ℕ) → IsInside (sizes_of own_walk) i → at source (sums own_walk.region.lo i) ≡ Some (element i) = λ i here.
-      reads (sums own_walk.region.lo i) (within_box (grid_at p.arrays source).shape own_walk.region.lo own_walk.region.hi i over here)
-      ∙ ap (λ (x : List ℕ). Some (part_element (type_at p.arrays source) axis (sizes_of own_walk) input x)) (box_back (grid_at p.arrays source).shape own_walk.region.lo own_walk.region.hi i over here)
+      let at_index = index p (λ d. d == axis) group_sizes m.source out task parts h idx in
+      let inside = index_inside p (λ d. d == axis) group_sizes m.source out task parts h idx w in
+      let each : (i : List ℕ) → IsInside (sizes_of own_walk) i → at m.source (sums own_walk.region.lo i) ≡ Some (element i) = λ i here.
+      reads (sums own_walk.region.lo i) (within_box (grid_at p.arrays m.source).shape own_walk.region.lo own_walk.region.hi i over here)
+      ∙ ap (λ (x : List ℕ). Some (part_element (type_at p.arrays m.source) axis (sizes_of own_walk) input x)) (box_back (grid_at p.arrays m.source).shape own_walk.region.lo own_walk.region.hi i over here)
       ∙ ap (λ (d : Dtype). Some (part_element d axis (sizes_of own_walk) input i)) (sym same) in
       let numbers = fold_of kind (map element (group_indices (axis_groups axis (sizes_of own_walk)) (sizes_of own_walk) at_index)) in
-      ap (reduced_to kind t) (map_is p (λ d. d == axis) group_sizes source out task parts h (at source) (λ i. Some (element i)) idx w each)
+      ap (reduced_to kind t) (map_is p (λ d. d == axis) group_sizes m.source out task parts h (at m.source) (λ i. Some (element i)) idx w each)
       ∙ reduced_given kind t element (group_indices (axis_groups axis (sizes_of own_walk)) (sizes_of own_walk) at_index)
-      ∙ ap Some (sym (number_at t output (place_within (task_lo p.arrays operation task) (task_hi p.arrays operation task) idx) numbers
-      (has_element p (λ d. d == axis) group_sizes source out task parts h t output idx numbers w (has at_index inside))))
+      ∙ ap Some (sym (number_at t output (place_within lo hi idx) numbers
+      (has_element p (λ d. d == axis) group_sizes m.source out task parts h t output idx numbers w (has at_index inside))))
 
-  merge_known : TaskMerge p operation task made own_walk
-  merge_known = record {
-    made = (fit.1 0 0 (omega arith)).0;
-    source = fit.2.0.along;
-    types = subst (λ (t : Dtype). Accumulates kind t (type_at p.arrays out)) fit.2.2 fit.2.1.types;
+  merge_known : TaskMerge p op task made (slice_index_or (input_walks p.arrays op task) 0 (walk 0 [] []))
+  merge_known = subst (λ (o : Op). TaskMerge p o task made (slice_index_or (input_walks p.arrays o task) 0 (walk 0 [] []))) (sym m.is) (record {
+    made = out_in;
+    source = goes_along.along;
+    types = subst (λ (t : Dtype). Accumulates kind t (type_at p.arrays out)) typed folds.types;
     along = axis_in;
-    enough = kind_enough p (λ d. d == axis) group_sizes source out task parts h kind fit.2.1.enough;
-    input = rw (sym fit.2.2) (omega arith);
+    enough = kind_enough p (λ d. d == axis) group_sizes m.source out task parts h kind folds.enough;
+    input = input_long;
     output = ap (λ n. n * size_of (type_at p.arrays out)) (sym results);
-    values = λ at input output reads has idx w. merged_is (type_at p.arrays out) at input output (sym fit.2.2) reads has idx w;
-    elements = λ element output long has. are_elements p (λ d. d == axis) group_sizes source out task parts h (type_at p.arrays out) output long (λ x inside. (_, has x inside));
-  }
+    values = λ at input output reads has idx w. merged_is (type_at p.arrays out) at input output (sym typed) reads has idx w;
+    elements = λ element output long has. are_elements p (λ d. d == axis) group_sizes m.source out task parts h (type_at p.arrays out) output long (λ x inside. (_, has x inside));
+  })
 
 -- a task of a merge
 pub task_merge : (t : TaskView) (s : Sound t.plan) (m : PartMerge) → IsMergeOf (task_op t) m.kind m.axis m.out → TaskMerge t.plan (task_op t) t.number m (walk_at t 0)
-task_merge t s m of_kind =
-    let known = is_merge (task_op t) m of_kind in
-    subst (λ (op : Op). TaskMerge t.plan op t.number m (slice_index_or (input_walks t.plan.arrays op t.number) 0 (walk 0 [] []))) (sym known.is)
-    (merge_known t.plan s t.op t.number m.kind m.axis known.group known.source m.out
-    (subst (Fit t.plan.arrays t.op) known.is (fit_of t.plan s t.op t.operation))
-    (subst (λ (op : Op). t.number < regions_of t.plan.arrays op) known.is t.within))
+task_merge t s m of_kind = merge_known t.plan s t.op t.number m.kind m.axis m.out (task_op t) (of_merge (task_op t) m of_kind) (fit_of t.plan s t.op t.operation) t.within
 
 -- its axis is one of the region that it reads
 pub axis_within : (t : TaskView) (s : Sound t.plan) (m : PartMerge) (w : Walk) → IsMergeOf (task_op t) m.kind m.axis m.out → w ≡ walk_at t 0 → IsWalkOver t.plan.arrays w

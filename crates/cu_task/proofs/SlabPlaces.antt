@@ -1,12 +1,11 @@
 -- Slabs of a region: some indices of its first axis, and where their elements stand.
-use Rattle.std.proofs.Common.{◌≡◌, ◌<◌, ◌≤◌, ◌+◌, ◌-◌, ◌*◌, ◌/◌, ◌%◌, ◌==◌, ℕ, zero, suc, List, [], ◌∷◌, length, drop, set, get_or, inl, inr, refl, ap, sym, ◌∙◌, subst, arith, if◌then◌else◌}
-use Rattle.std.proofs.lemmas.Bool.{cases_lt}
+use Rattle.std.proofs.Common.{◌≡◌, ◌<◌, ◌≤◌, ◌+◌, ◌-◌, ◌*◌, ◌/◌, ◌%◌, ◌==◌, ℕ, zero, suc, List, [], ◌∷◌, length, drop, set, get_or, inl, inr, refl, ap, ◌∙◌, arith, if◌then◌else◌}
 use Rattle.std.proofs.lemmas.Bool.Decides.{eqb_tells}
 use Rattle.std.proofs.lemmas.Nat.{div-add-mod', div_below, le-div, mod_below, mul-le}
 use Rattle.cu_codec.proofs.Shared.{within_sizes}
 use Rattle.cu_codec.specs.Parts.{place_within}
 use Rattle.cu_grid.specs.Counts.{IsRegion, IsWithin}
-use Rattle.cu_shape.proofs.Places.{index-inside, inside-length, place-below, place-index}
+use Rattle.cu_shape.proofs.Places.{index-inside, inside-length, place-index}
 use Rattle.cu_shape.specs.Index.{back, back_along, differences, index_at, place_of, product, sums, IsInside}
 use Rattle.cu_task.proofs.PullTask.{box_back}
 use Rattle.cu_task.proofs.ViewChunks.{within_box}

@@ -1,19 +1,13 @@
 -- The chunk from which a view makes an input of a map that is made by slabs: its call, and what its front shows.
-use Rattle.std.proofs.Common.{◌≡◌, ◌<◌, ◌≤◌, ◌+◌, ◌*◌, ℕ, zero, suc, Bool, true, List, [], ◌∷◌, length, Contains, Option, Some, None, inl, inr, refl, ap, sym, ◌∙◌, subst, arith, if◌then◌else◌}
+use Rattle.std.proofs.Common.{◌≡◌, ◌<◌, ◌+◌, ℕ, Bool, true, List, [], ◌∷◌, length, Contains, Some, inl, inr, refl, ap, sym, ◌∙◌, subst, arith, if◌then◌else◌}
 use Rattle.std.specs.Prelude.{slice_index, sum_by, OnOk, Result, Ok, Err}
-use Rattle.cu_grid.specs.Cover.{covering}
 use Rattle.cu_num.specs.Element.{element_bytes}
 use Rattle.cu_num.specs.declared.layout.Endian.TheVariants.{Little}
-use Rattle.cu_op.proofs.TaskCells.{fit_of}
 use Rattle.cu_op.specs.Chunks.{cell}
-use Rattle.cu_op.specs.Operation.{value_array}
-use Rattle.cu_op.specs.TaskView.{TaskView, task_op, walk_at}
+use Rattle.cu_op.specs.TaskView.{TaskView, walk_at}
 use Rattle.cu_op.specs.declared.cells.Cell.{Cell}
-use Rattle.cu_op.specs.declared.operation.Op.{Op}
-use Rattle.cu_op.specs.declared.operation.Op.TheVariants.{Pull}
 use Rattle.cu_origin.specs.declared.provenance.Provenance.{Provenance}
 use Rattle.cu_origin.specs.declared.provenance.Provenance.TheVariants.{From}
-use Rattle.cu_origin.specs.declared.pull.Pull.{Pull as View}
 use Rattle.cu_region.proofs.SteadyKeys.{first_or_rest, none_contained}
 use Rattle.cu_region.specs.Reading.{key_at, HasFront, IsChunkReadFault}
 use Rattle.cu_shape.specs.Index.{quotients}
@@ -28,19 +22,14 @@ use Rattle.cu_task.proofs.PullTask.{has_values, known_sources, source_key, view_
 use Rattle.cu_task.proofs.ViewChunks.{exact_tally, hull_meets, origin_inside}
 use Rattle.cu_task.proofs.ViewElements.{takes_chunk}
 use Rattle.cu_task.specs.Calls.{chunk_calls, chunk_tally}
-use Rattle.cu_task.specs.Inputs.{IsPullOf}
-use Rattle.cu_task.specs.OfTask.{calls_for_walk, cell_weight, held_inputs, stored_elements, tally_for_walk, HasMade, HasWalk, HoldsFor, IsOwnFault}
-use Rattle.cu_task.specs.Slabs.{front_room, number_shown, view_task_in, view_type, IsOnlyChunk, IsWholeShown, IsSlabJob, ShowsInput}
+use Rattle.cu_task.specs.OfTask.{calls_for_walk, cell_weight, stored_elements, tally_for_walk, HasMade, HoldsFor, IsOwnFault}
+use Rattle.cu_task.specs.Slabs.{front_room, number_shown, view_task_in, view_type, IsOnlyChunk, IsSlabJob, ShowsInput}
 use Rattle.cu_task.specs.Task.{IsTaskKey}
 use Rattle.cu_task.specs.ViewJobs.{source_of_chunk, source_room, view_of_chunk, IsKeyOfSource}
 use Rattle.cu_task.specs.Views.{may_read, needs_chunk, origin_in, source_tally, tally_for, view_tally, HasCome, HasPulled, IsOfChunk}
 use Rattle.cu_task.specs.declared.slab_jobs.SlabJob.{SlabJob}
 use Rattle.cu_task.specs.declared.views.SourceChunk.{SourceChunk}
 use Rattle.cu_grid.specs.Counts.{IsWithin}
-
-view_stores : (op : Op) (pull : View) (ins : List ℕ) → IsPullOf op pull ins → value_array op ≡ None
-view_stores (Pull own sources out) pull ins is = refl
-view_stores op pull ins is = absurd is
 
 pub first_source : (s n : ℕ) → n ≡ 1 → s < n → s ≡ 0
 first_source s n one below = omega (arith, one, below)
@@ -129,7 +118,7 @@ module _ (t : TaskView) (job : SlabJob) (is : IsSlabJob t job) where
         constants = λ idx x w o. shown idx w ∙ ap (λ (y : Provenance). element_bytes Little (view_type job.chunk.now) (number_shown job.chunk.now front y)) o;
       } in
       let made : HasMade inner (stored_elements inner fewer.now) whole = λ idx w. o.value _ idx ∙ has_values (view_of_chunk job.chunk.now) fit fewer.now whole pulled idx w in
-      let all = alike_made inner is.only.of_source.job.sound held old [] whole o.whole (view_stores (task_op inner) job.chunk.now.job.now.pull.now job.chunk.now.job.now.ins.now is.only.of_source.job.pull) fewer made in
+      let all = alike_made inner is.only.of_source.job.sound held old [] whole o.whole o.stores fewer made in
       is.maps.inside.values held whole all.output
 
 pub on_ok_always : {T E A : Type 0} (r : Result T E) → A → OnOk r A

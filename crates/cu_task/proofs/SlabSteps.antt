@@ -3,7 +3,6 @@ use Rattle.std.proofs.Common.{◌≡◌, ◌<◌, ◌≤◌, ◌+◌, ◌-◌, �
 use Rattle.std.proofs.Math.Seq.{drop-append-add}
 use Rattle.std.proofs.lemmas.List.{drop-drop, length-append}
 use Rattle.std.proofs.lemmas.Nat.{mul-le}
-use Rattle.cu_codec.specs.Parts.{place_within}
 use Rattle.cu_kern.proofs.Parts.{size_positive}
 use Rattle.cu_kern.specs.Lays.{loaded_at}
 use Rattle.cu_num.proofs.ElementBytes.{element_at_own, element_at_same}
@@ -14,17 +13,17 @@ use Rattle.cu_num.specs.declared.types.Dtype.{Dtype}
 use Rattle.cu_op.proofs.Alike.{same_kernel}
 use Rattle.cu_op.specs.Arrays.{grid_at}
 use Rattle.cu_op.specs.Kernel.{kernel_value}
-use Rattle.cu_op.specs.TaskView.{TaskView, task_op, walk_at}
+use Rattle.cu_op.specs.TaskView.{TaskView, task_op}
 use Rattle.cu_shape.specs.Index.{differences, index_at, place_of, product, sums}
 use Rattle.cu_task.proofs.InputReads.{front_part}
-use Rattle.cu_task.proofs.SlabPlaces.{in_slab, product_cut, product_rows, rows_most}
+use Rattle.cu_task.proofs.SlabPlaces.{in_slab, product_cut, product_rows}
 use Rattle.cu_task.proofs.SlabValues.{slab_loads}
 use Rattle.cu_task.proofs.Tails.{piece_before, piece_behind, piece_within}
+use Rattle.cu_task.specs.Inputs.{map_code}
 use Rattle.cu_task.specs.OfTask.{made_bytes}
-use Rattle.cu_task.specs.Slabs.{bytes_shown, map_code, input_bytes_at, input_start, input_type, made_type, mapped_value, other_place, own_sizes, result_bytes_at, slab_dims, slab_lays, slab_lo, cut_from, two_loads, view_task_in, view_type, HasSlabResults, IsWholeShown, IsSlabJob, IsStrip, IsValue}
+use Rattle.cu_task.specs.Slabs.{bytes_shown, input_bytes_at, input_start, input_type, made_type, other_place, own_sizes, result_bytes_at, slab_dims, slab_lays, slab_lo, cut_from, two_loads, view_type, HasSlabResults, IsWholeShown, IsSlabJob, IsStrip}
 use Rattle.cu_task.specs.Straight.{behind_first}
 use Rattle.cu_task.specs.ViewJobs.{view_of_chunk}
-use Rattle.cu_task.specs.Views.{bytes_in}
 use Rattle.cu_task.specs.declared.slab_jobs.SlabJob.{SlabJob}
 
 has_axis : (hi lo : List ℕ) → 0 < length (differences hi lo) → 0 < length lo

@@ -1,5 +1,5 @@
 -- A task of a map that is made by slabs: its calls, and what its memory has in the end.
-use Rattle.std.proofs.Common.{◌≡◌, ◌<◌, ◌≤◌, ◌+◌, ◌-◌, ◌*◌, ℕ, zero, suc, ℤ, List, [], ◌∷◌, ◌++◌, length, take, drop, None, Some, refl, ap, sym, ◌∙◌, subst, arith}
+use Rattle.std.proofs.Common.{◌≡◌, ◌<◌, ◌≤◌, ◌+◌, ◌-◌, ◌*◌, ℕ, zero, suc, ℤ, List, [], ◌∷◌, ◌++◌, length, take, drop, Some, ap, sym, ◌∙◌, subst, arith}
 use Rattle.std.specs.Prelude.{sum_by}
 use Rattle.std.proofs.lemmas.List.{append-nil, drop-drop, length-append}
 use Rattle.std.proofs.lemmas.List.Sums.{sum_by-append, sum_by-cons}
@@ -10,37 +10,27 @@ use Rattle.cu_num.proofs.ElementBytes.{element_at_own}
 use Rattle.cu_num.specs.Dtype.{size_of}
 use Rattle.cu_num.specs.Element.{bytes_at, element_at, element_bytes}
 use Rattle.cu_num.specs.declared.layout.Endian.TheVariants.{Little}
-use Rattle.cu_num.specs.declared.types.Dtype.{Dtype}
 use Rattle.cu_op.specs.Kernel.{kernel_value}
-use Rattle.cu_op.specs.Operation.{value_array}
 use Rattle.cu_op.specs.TaskView.{TaskView, task_op, walk_at}
 use Rattle.cu_op.specs.Walks.{cells_of_walks, input_walks, walk_cells}
 use Rattle.cu_op.specs.declared.cells.Cell.{Cell}
-use Rattle.cu_op.specs.declared.operation.Op.{Op}
-use Rattle.cu_op.specs.declared.operation.Op.TheVariants.{Map}
 use Rattle.cu_op.specs.declared.walks.Walk.{Walk}
 use Rattle.cu_shape.proofs.Places.{index-place, place-below}
-use Rattle.cu_shape.specs.Index.{differences, index_at, place_of, product, sums}
+use Rattle.cu_shape.specs.Index.{differences, index_at, product, sums}
 use Rattle.cu_store.specs.Held.{Contents}
-use Rattle.cu_task.proofs.Inside.{computed_calls, computed_tally}
+use Rattle.cu_task.proofs.TaskKinds.{computed_calls, computed_tally, of_map}
 use Rattle.cu_task.proofs.MapTask.{sums_differences}
-use Rattle.cu_task.proofs.SlabSteps.{all_places, shown_sizes, shown_type, next_place}
+use Rattle.cu_task.proofs.SlabSteps.{all_places, next_place}
 use Rattle.cu_task.proofs.SlabValues.{all_numbers, map_made, two_walks}
-use Rattle.cu_task.proofs.StripTask.{map_computes}
 use Rattle.cu_task.proofs.Tails.{length-last_bytes, piece_before}
 use Rattle.cu_task.proofs.TaskRooms.{kept_computing}
 use Rattle.cu_task.specs.Calls.{chunk_calls, chunk_tally}
-use Rattle.cu_task.specs.Inputs.{last_bytes, room_of_walks, walk_room}
+use Rattle.cu_task.specs.Inputs.{last_bytes, map_code, room_of_walks, walk_room}
 use Rattle.cu_task.specs.OfTask.{calls_for_walk, calls_to_read, cell_weight, held_inputs, kept_bytes, made_bytes, tally_for_walk, tally_to_read, AreOfItsType, HasMade, HasWalk}
-use Rattle.cu_task.specs.Slabs.{input_bytes_at, input_start, input_type, made_type, map_code, mapped_value, number_shown, other_place, own_sizes, result_bytes_at, cut_from, two_loads, view_type, HasSlabResults, IsWholeShown, IsSlabJob, IsValue, MapsTwo, ShowsInput}
-use Rattle.cu_task.specs.Strips.{IsMap}
+use Rattle.cu_task.specs.Slabs.{input_bytes_at, input_start, input_type, made_type, mapped_value, number_shown, other_place, own_sizes, result_bytes_at, cut_from, two_loads, view_type, HasSlabResults, IsWholeShown, IsSlabJob, IsValue, MapsTwo, ShowsInput}
 use Rattle.cu_task.specs.ViewJobs.{view_of_chunk}
 use Rattle.cu_task.specs.Views.{origin_in}
 use Rattle.cu_task.specs.declared.slab_jobs.SlabJob.{SlabJob}
-
-pub map_stores : (op : Op) → IsMap op → value_array op ≡ None
-map_stores (Map kernel ins out) is = refl
-map_stores op is = absurd is
 
 -- ---- calls
 
@@ -53,11 +43,11 @@ two_sums f t maps =
 
 pub both_calls : (t : TaskView) → MapsTwo t → calls_to_read t ≡ calls_for_walk t (walk_at t 0) + calls_for_walk t (walk_at t 1)
 both_calls t maps =
-    computed_calls (chunk_calls t.plan t.op) t.plan.arrays (task_op t) t.number (map_computes (task_op t) maps.map) ∙ two_sums (chunk_calls t.plan t.op) t maps
+    computed_calls (chunk_calls t.plan t.op) t.plan.arrays (task_op t) t.number (of_map (task_op t) maps.map).computes ∙ two_sums (chunk_calls t.plan t.op) t maps
 
 pub both_tally : (weight : List ℕ → ℕ) (t : TaskView) → MapsTwo t → tally_to_read weight t ≡ tally_for_walk weight t (walk_at t 0) + tally_for_walk weight t (walk_at t 1)
 both_tally weight t maps =
-    computed_tally (cell_weight weight t) (chunk_tally (cell_weight weight t) t.plan t.op) t.plan.arrays (task_op t) t.number (map_computes (task_op t) maps.map)
+    computed_tally (cell_weight weight t) (chunk_tally (cell_weight weight t) t.plan t.op) t.plan.arrays (task_op t) t.number (of_map (task_op t) maps.map).computes
     ∙ two_sums (chunk_tally (cell_weight weight t) t.plan t.op) t maps
 
 -- in the order of the view's input and the other one
@@ -79,7 +69,7 @@ placed_rooms t place maps listed = by_place place listed
     both =
         let last : room_of_walks t.plan.arrays (walk_at t 1 ∷ []) ≡ walk_room t.plan.arrays (walk_at t 1) + 0 = sum_by-cons (walk_room t.plan.arrays) (walk_at t 1) [] in
         let all = sum_by-cons (walk_room t.plan.arrays) (walk_at t 0) (walk_at t 1 ∷ []) in
-        let kept = kept_computing t.plan.arrays (task_op t) t.number (map_computes (task_op t) maps.map) in
+        let kept = kept_computing t.plan.arrays (task_op t) t.number (of_map (task_op t) maps.map).computes in
         let walks = ap (room_of_walks t.plan.arrays) (two_walks t maps) in
         omega (arith, last, all, kept, walks)
 

@@ -1,47 +1,36 @@
 -- What a map makes by slabs is what it makes of whole regions, of which the view's exists in the proof alone.
-use Rattle.std.proofs.Common.{◌≡◌, ◌<◌, ◌≤◌, ◌+◌, ◌-◌, ◌*◌, ℕ, zero, suc, ℤ, List, [], ◌∷◌, ◌++◌, All, length, take, drop, Option, Some, option_map, refl, ap, sym, ◌∙◌, subst, inl, inr, arith}
+use Rattle.std.proofs.Common.{◌≡◌, ◌<◌, ◌≤◌, ◌+◌, ◌-◌, ◌*◌, ℕ, zero, suc, ℤ, List, [], ◌∷◌, ◌++◌, All, length, take, drop, Some, refl, ap, sym, ◌∙◌, subst, inl, inr, arith}
 use Rattle.std.proofs.Math.Seq.{drop-append_seam}
 use Rattle.std.proofs.lemmas.Bool.{cases_lt}
-use Rattle.std.proofs.lemmas.List.{length-append, length-drop}
+use Rattle.std.proofs.lemmas.List.{length-append}
 use Rattle.std.proofs.lemmas.List.Elements.{All-cons, All-nil}
 use Rattle.std.proofs.lemmas.Nat.{mul-le}
-use Rattle.std.specs.List.{slice_get}
-use Rattle.cu_codec.specs.Parts.{part_at, place_within}
 use Rattle.cu_kern.specs.Lays.{lay_types, loaded_at, BroadcastsTo, LayFits}
-use Rattle.cu_kern.specs.declared.lays.Lay.{Lay}
-use Rattle.cu_num.proofs.ElementBytes.{element_at_own, element_at_same, length-element_bytes}
+use Rattle.cu_num.proofs.ElementBytes.{element_at_same, length-element_bytes}
 use Rattle.cu_num.specs.Dtype.{size_of}
 use Rattle.cu_num.specs.Element.{bytes_at, element_at, element_bytes}
 use Rattle.cu_num.specs.declared.layout.Endian.TheVariants.{Little}
 use Rattle.cu_num.specs.declared.types.Dtype.{Dtype}
 use Rattle.cu_op.proofs.Alike.{same_kernel}
 use Rattle.cu_op.proofs.TaskCells.{fit_of}
-use Rattle.cu_op.specs.Arrays.{type_at}
 use Rattle.cu_op.specs.Chunks.{walk}
-use Rattle.cu_op.specs.Cells.{task_lo, task_hi}
 use Rattle.cu_op.specs.Elements.{Elements}
 use Rattle.cu_op.specs.Kernel.{kernel_value}
 use Rattle.cu_op.specs.KernelTypes.{KernelFits}
-use Rattle.cu_op.specs.Operation.{target_of}
 use Rattle.cu_op.specs.Sound.{Sound}
 use Rattle.cu_op.specs.TaskView.{TaskView, task_op, walk_at}
-use Rattle.cu_op.specs.Walks.{input_walks}
-use Rattle.cu_op.specs.declared.kernel.Instr.{Instr}
 use Rattle.cu_op.specs.declared.kernel.Kernel.{Kernel}
-use Rattle.cu_op.specs.declared.operation.Op.{Op}
-use Rattle.cu_op.specs.declared.operation.Op.TheVariants.{Map}
 use Rattle.cu_op.specs.declared.walks.Walk.{Walk}
-use Rattle.cu_shape.proofs.Places.{index-inside, place-below, place-index}
-use Rattle.cu_shape.specs.Index.{back, differences, index_at, place_of, product, sums, IsInside}
+use Rattle.cu_shape.proofs.Places.{place-below}
+use Rattle.cu_shape.specs.Index.{back, place_of, product, IsInside}
 use Rattle.cu_task.proofs.InputReads.{front_part, regions_more}
 use Rattle.cu_task.proofs.MadeParts.{at_end, next_walk}
 use Rattle.cu_task.proofs.MapTask.{task_kernel}
 use Rattle.cu_task.proofs.SlabPlaces.{back_same}
-use Rattle.cu_task.proofs.Tails.{piece_behind}
-use Rattle.cu_task.specs.Inputs.{lays_from, room_of_walks, walk_room, HasRegions, IsMapOf}
-use Rattle.cu_task.specs.OfTask.{walks_from, HasMade, HasWalk, IsMadeFrom}
-use Rattle.cu_task.specs.Slabs.{map_code, input_sizes, input_type, made_type, other_place, own_sizes, slab_lay, slab_lays, two_loads, MapsTwo}
-use Rattle.cu_task.specs.Strips.{IsMap}
+use Rattle.cu_task.proofs.TaskKinds.{of_map}
+use Rattle.cu_task.specs.Inputs.{lays_from, map_code, walk_room, HasRegions, IsMapOf}
+use Rattle.cu_task.specs.OfTask.{walks_from, HasMade, HasWalk}
+use Rattle.cu_task.specs.Slabs.{input_sizes, input_type, made_type, other_place, own_sizes, slab_lay, slab_lays, two_loads, MapsTwo}
 
 -- ---- bytes one element after another
 
@@ -77,10 +66,6 @@ all_numbers t (suc n) number =
     fits front p less long = let far : suc p * size_of t ≤ n * size_of t = mul-le (suc p) (size_of t) n (size_of t) less (omega arith) in omega (arith, far, long)
 
 -- ---- a map of two inputs
-
-pub kernel_of : (op : Op) → IsMap op → (kernel : Kernel) × IsMapOf op kernel × (map_code op ≡ kernel.code.items)
-kernel_of (Map kernel ins out) is = (kernel, refl, refl)
-kernel_of op is = absurd is
 
 pub two_walks : (t : TaskView) → MapsTwo t → walks_from t 0 ≡ walk_at t 0 ∷ walk_at t 1 ∷ []
 two_walks t maps =
@@ -151,14 +136,13 @@ pub map_made : (t : TaskView) (place : ℕ) (shown other output : List ℕ) (at 
     ≡ Some (element_at Little (made_type t) output p))
     → HasMade t at output
 map_made t place shown other output at s maps listed are one two values idx within =
-    let (kernel, is, code) = kernel_of (task_op t) maps.map in
-    let own = task_kernel t.plan s t.op (task_op t) t.number kernel (fit_of t.plan s t.op t.operation) t.within is in
+    let kernel : Kernel = record { code = record { items = map_code (task_op t) } } in
+    let own = task_kernel t.plan s t.op (task_op t) t.number kernel (fit_of t.plan s t.op t.operation) t.within (of_map (task_op t) maps.map).code in
     let ws = two_walks t maps in
     own.value at (both_inputs place shown other) output
     (subst (λ (xs : List Walk). HasRegions t.plan.arrays at xs (both_inputs place shown other)) (sym ws) (both_regions t place shown other at listed are one two))
-    (λ i inside. ap (λ (xs : List Walk). kernel_value kernel.code.items (loaded_at (lays_from t.plan.arrays 0 xs) (both_inputs place shown other) i)) ws
-    ∙ same_kernel kernel.code.items _ _ (both_loads t place shown other i listed inside are)
-    ∙ ap (λ (c : List Instr). kernel_value c (two_loads place (element_at Little (input_type t place) shown (place_of (own_sizes t) i)) (element_at Little (input_type t (other_place place)) other (place_of (own_sizes t) i)))) (sym code)
+    (λ i inside. ap (λ (xs : List Walk). kernel_value (map_code (task_op t)) (loaded_at (lays_from t.plan.arrays 0 xs) (both_inputs place shown other) i)) ws
+    ∙ same_kernel (map_code (task_op t)) _ _ (both_loads t place shown other i listed inside are)
     ∙ values (place_of (own_sizes t) i) (place-below (own_sizes t) i inside))
     idx within
 

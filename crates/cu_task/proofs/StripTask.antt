@@ -18,24 +18,17 @@ use Rattle.cu_op.specs.TaskView.{TaskView, task_op, walk_at}
 use Rattle.cu_op.specs.Walks.{cells_of_walks, input_walks, walk_cells}
 use Rattle.cu_op.specs.declared.cells.Cell.{Cell}
 use Rattle.cu_op.specs.declared.kernel.Kernel.{Kernel}
-use Rattle.cu_op.specs.declared.operation.Op.{Op}
-use Rattle.cu_op.specs.declared.operation.Op.TheVariants.{Map}
 use Rattle.cu_op.specs.declared.walks.Walk.{Walk}
 use Rattle.cu_shape.proofs.Places.{index-place, place-below}
 use Rattle.cu_shape.specs.Index.{product, place_of, differences}
 use Rattle.cu_store.specs.Held.{Contents}
-use Rattle.cu_task.proofs.Inside.{computed_calls, computed_tally}
+use Rattle.cu_task.proofs.TaskKinds.{computed_calls, computed_tally, of_map}
 use Rattle.cu_task.proofs.MapTask.{task_kernel}
 use Rattle.cu_task.proofs.PartialFolds.{fold_computes, reads_one}
 use Rattle.cu_task.specs.Calls.{chunk_calls, chunk_tally}
 use Rattle.cu_task.specs.Inputs.{lays_from, HasRegions, IsMapOf}
 use Rattle.cu_task.specs.OfTask.{calls_for_walks, calls_to_read, cell_weight, held_inputs, read_bytes, tally_for_walks, tally_to_read, walks_from, HasMade, IsMadeFrom}
-use Rattle.cu_task.specs.Strips.{FoldsMap, IsFold, IsMadeThrough, IsMap}
-use Rattle.cu_task.specs.Task.{IsComputing}
-
-pub map_computes : (op : Op) → IsMap op → IsComputing op
-map_computes (Map kernel ins out) is = tt
-map_computes op is = absurd is
+use Rattle.cu_task.specs.Strips.{FoldsMap, IsFold, IsMadeThrough}
 
 cells_of_one : (f : Cell → ℕ) (t : TaskView) → IsFold (task_op t) → sum_by f (cells_of_walks t.plan.arrays (input_walks t.plan.arrays (task_op t) t.number)) ≡ sum_by f (walk_cells t.plan.arrays (walk_at t 0))
 cells_of_one f t is =
@@ -49,14 +42,14 @@ module _ (t inner : TaskView) (folds : FoldsMap t inner) where
       computed_calls (chunk_calls t.plan t.op) t.plan.arrays (task_op t) t.number (fold_computes (task_op t) folds.fold)
       ∙ cells_of_one (chunk_calls t.plan t.op) t folds.fold
       ∙ sym folds.inside.calls
-      ∙ computed_calls (chunk_calls inner.plan inner.op) inner.plan.arrays (task_op inner) inner.number (map_computes (task_op inner) folds.map)
+      ∙ computed_calls (chunk_calls inner.plan inner.op) inner.plan.arrays (task_op inner) inner.number (of_map (task_op inner) folds.map).computes
 
   pub folded_tally : (weight : List ℕ → ℕ) → tally_to_read weight t ≡ tally_for_walks weight inner (walks_from inner 0)
   folded_tally weight =
       computed_tally (cell_weight weight t) (chunk_tally (cell_weight weight t) t.plan t.op) t.plan.arrays (task_op t) t.number (fold_computes (task_op t) folds.fold)
       ∙ cells_of_one (chunk_tally (cell_weight weight t) t.plan t.op) t folds.fold
       ∙ sym (folds.inside.tally weight)
-      ∙ computed_tally (cell_weight weight inner) (chunk_tally (cell_weight weight inner) inner.plan inner.op) inner.plan.arrays (task_op inner) inner.number (map_computes (task_op inner) folds.map)
+      ∙ computed_tally (cell_weight weight inner) (chunk_tally (cell_weight weight inner) inner.plan inner.op) inner.plan.arrays (task_op inner) inner.number (of_map (task_op inner) folds.map).computes
 
   -- what it makes of what the map makes of what is held
   pub folded_made : (held : Contents) (inputs output : List ℕ) → HasRegions inner.plan.arrays (held_inputs inner held) (walks_from inner 0) inputs

@@ -13,6 +13,11 @@ use Rattle.cu_op.specs.declared.operation.Op.TheVariants.{Pull}
 use Rattle.cu_origin.specs.declared.pull.Pull.{Pull as View}
 use Rattle.cu_task.specs.Views.{ViewTask, is_exact, view_tally}
 
+-- the operation is this view of these arrays
+abbrev pub IsPullOf : Op → View → List ℕ → Type 0
+IsPullOf (Pull pull ins out) view sources = (view ≡ pull) × (sources ≡ ins.items)
+IsPullOf op view sources = ⊥
+
 -- The view and the region of a task of it.
 abbrev pub view_task : List ArrayInfo → View → List ℕ → ℕ → List ℕ → List ℕ → ViewTask
 view_task arrays pull ins out lo hi = record { arrays = arrays; pull = pull; ins = ins; out = out; lo = lo; hi = hi }

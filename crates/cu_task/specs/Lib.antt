@@ -15,3 +15,4 @@ pub mod Task
 pub mod TaskRoom
 pub mod ViewJobs
 pub mod Views
+pub mod Ways

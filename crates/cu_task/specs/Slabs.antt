@@ -1,10 +1,9 @@
 -- A map of which a view makes one of two inputs, slab by slab: by some indices of the first axis of its region. This project's own rules.
-use Rattle.std.specs.Prelude.{◌≡◌, ℕ, zero, suc, ◌+◌, ◌-◌, ◌*◌, ◌<◌, ◌≤◌, ◌==◌, ℤ, true, List, [], ◌∷◌, All, Option, Some, length, take, drop, slice_index, slice_set, if◌then◌else◌}
+use Rattle.std.specs.Prelude.{◌≡◌, ℕ, zero, suc, ◌+◌, ◌-◌, ◌*◌, ◌<◌, ◌≤◌, ◌==◌, ℤ, true, List, [], ◌∷◌, Option, Some, length, take, drop, slice_index, slice_set, if◌then◌else◌}
 use Rattle.std.specs.List.{slice_get}
 use Rattle.cu_grid.specs.Counts.{IsWithin}
 use Rattle.cu_grid.specs.Cover.{covering}
 use Rattle.cu_grid.specs.Grid.{IsCoordinate}
-use Rattle.cu_kern.specs.Lays.{loaded_at}
 use Rattle.cu_kern.specs.declared.lays.Lay.{Lay}
 use Rattle.cu_num.specs.Dtype.{size_of}
 use Rattle.cu_num.specs.Element.{bytes_at, element_at, element_bytes}
@@ -16,20 +15,18 @@ use Rattle.cu_op.specs.Kernel.{kernel_value}
 use Rattle.cu_op.specs.Operation.{target_of}
 use Rattle.cu_op.specs.Sound.{Sound}
 use Rattle.cu_op.specs.TaskView.{TaskView, task_op, walk_at}
-use Rattle.cu_op.specs.declared.kernel.Instr.{Instr}
-use Rattle.cu_op.specs.declared.operation.Op.{Op}
-use Rattle.cu_op.specs.declared.operation.Op.TheVariants.{Map}
 use Rattle.cu_origin.specs.declared.provenance.Provenance.{Provenance}
 use Rattle.cu_origin.specs.declared.provenance.Provenance.TheVariants.{From, Const}
 use Rattle.cu_shape.specs.Index.{differences, place_of, product, remainders}
 use Rattle.cu_store.specs.Held.{Contents}
-use Rattle.cu_task.specs.Inputs.{walk_room}
+use Rattle.cu_task.specs.Calls.{IsPullOf}
+use Rattle.cu_task.specs.Inputs.{map_code, walk_room, IsMap}
 use Rattle.cu_task.specs.Inside.{StandsInside}
 use Rattle.cu_task.specs.OfTask.{held_inputs, made_bytes, walks_from, HasWalk}
 use Rattle.cu_task.specs.Straight.{behind_first}
-use Rattle.cu_task.specs.Strips.{IsMap}
 use Rattle.cu_task.specs.ViewJobs.{is_needed_chunk, source_of_chunk, view_of_chunk, view_task_of, HasHull, IsFront, IsSourceChunk, IsViewJob}
 use Rattle.cu_task.specs.Views.{ViewTask, bytes_in, is_exact, needs_chunk, origin_in, source_in}
+use Rattle.cu_task.specs.declared.slab_jobs.MadeInput.{MadeInput}
 use Rattle.cu_task.specs.declared.slab_jobs.NeededChunk.{NeededChunk}
 use Rattle.cu_task.specs.declared.slab_jobs.SlabJob.{SlabJob}
 use Rattle.cu_task.specs.declared.slab_jobs.SlabSizes.{SlabSizes}
@@ -48,6 +45,12 @@ pub record MapsMade (outer : TaskView) (place : ℕ) (inner : TaskView) : Type 0
   pub maps : MapsTwo outer
   pub listed : place < 2
   pub inside : StandsInside outer (walk_at outer place) inner
+
+-- it is a task of this view of these arrays
+pub record IsMadeByView (m : MadeInput) : Type 0 where
+  pub sound : Sound m.maker.plan
+  pub view : IsPullOf (task_op m.maker) m.pull.now m.ins.now
+  pub few : length m.ins.now ≤ 8
 
 -- the place of the other input
 abbrev pub other_place : ℕ → ℕ
@@ -164,10 +167,6 @@ abbrev pub ShowsInput : TaskView → SlabJob → Contents → List ℕ → Type 
 ShowsInput t job held front = (whole : List ℕ) → IsWholeShown job.chunk.now front whole → HasWalk t (held_inputs t held) (walk_at t job.place) whole
 
 -- ---- what the kernel gives
-
-abbrev pub map_code : Op → List Instr
-map_code (Map kernel ins out) = kernel.code.items
-map_code op = []
 
 -- where a strip of the input at a place stands in front of a buffer, and so many elements of the other one from a byte on
 abbrev pub slab_lay : TaskView → ℕ → ℕ → ℕ → ℕ → Lay

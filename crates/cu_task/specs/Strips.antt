@@ -12,8 +12,9 @@ use Rattle.cu_op.specs.TaskView.{TaskView, task_op, walk_at}
 use Rattle.cu_op.specs.declared.kernel.Instr.{Instr}
 use Rattle.cu_op.specs.declared.kernel.Instr.TheVariants.{One}
 use Rattle.cu_op.specs.declared.operation.Op.{Op}
-use Rattle.cu_op.specs.declared.operation.Op.TheVariants.{Fold, Map}
+use Rattle.cu_op.specs.declared.operation.Op.TheVariants.{Fold}
 use Rattle.cu_reduce.specs.Kinds.{Accumulates}
+use Rattle.cu_task.specs.Inputs.{IsMap}
 use Rattle.cu_task.specs.Inside.{StandsInside}
 use Rattle.cu_task.specs.OfTask.{IsMadeFrom}
 use Rattle.cu_task.specs.declared.strips.RegionMap.{RegionMap}
@@ -21,10 +22,6 @@ use Rattle.cu_task.specs.declared.strips.RegionMap.{RegionMap}
 abbrev pub IsFold : Op → Type 0
 IsFold (Fold kind axes source out) = Unit {0}
 IsFold op = ⊥
-
-abbrev pub IsMap : Op → Type 0
-IsMap (Map kernel ins out) = Unit {0}
-IsMap op = ⊥
 
 -- the outer task folds what the inner one, a map, makes where it is read
 pub record FoldsMap (outer inner : TaskView) : Type 0 where

@@ -27,6 +27,7 @@ mod slabs;
 mod straight;
 mod strips;
 mod views;
+mod ways;
 mod yards;
 
 pub use laws::{needed_chunks_law, region_law};

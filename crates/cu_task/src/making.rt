@@ -17,13 +17,13 @@ ghost use Rattle.cu_task.specs.OfTask.{tally_for_walk, tally_for_walks, tally_to
 ghost use Rattle.cu_task.specs.OfTask.{held_inputs, kernel_words, walks_from, work_bytes, HasWalk};
 ghost use Rattle.cu_task.specs.OfTask.{HoldsFor, IsOwnFault, IsSure, MayRead};
 ghost use Rattle.cu_task.specs.Slabs.{front_room, other_place, task_of_chunk, FitsSlabs};
-ghost use Rattle.cu_task.specs.Slabs.{IsOnlyChunk, IsSlabJob, MapsMade, ShowsInput};
+ghost use Rattle.cu_task.specs.Slabs.{IsMadeByView, IsOnlyChunk, IsSlabJob, MapsMade};
+ghost use Rattle.cu_task.specs.Slabs.{ShowsInput};
 ghost use Rattle.cu_task.specs.Strips.{FoldsMap};
 ghost use Rattle.cu_task.specs.Task.{IsComputing};
 ghost use Rattle.cu_task.specs.ViewJobs.{source_of_chunk};
 ghost use Rattle.cu_task.specs.TaskRoom.{output_in, room_bytes, found_values_in};
 ghost use Rattle.cu_task.specs.TaskRoom.{AreAllOfTheirTypes, HasMadeAll};
-ghost use Rattle.cu_view.specs.Planned.{IsViewOperation};
 
 use crate::compute::compute;
 use crate::copies::copy_region;
@@ -39,7 +39,8 @@ use crate::slab_jobs::{
 use crate::slabs::make_slabs;
 use crate::strips::{fold_map, folded_map};
 use crate::views::{SourceChunk, ViewJob, front_block, front_bytes, shapes_of};
-use cu_op::{Op, PlanTask};
+use crate::ways::{Way, way_of};
+use cu_op::PlanTask;
 use cu_store::{Chunks, TaskFault};
 
 /// The elements of the result in the region of a task, and the values that a search finds,
@@ -71,9 +72,8 @@ pub(crate) fn make_result<C: Chunks>(
         (C.tally access.old) (C.tally access.new)) }
     ensures cause { IfErr result (IsOwnFault task.now (C.shown access.old) (C.shown access.new)) }
 {
-    match task.operation() {
-        Op::Pull { pull, ins, .. } => {
-            let ins = ins.as_slice();
+    match way_of(task) {
+        Way::View { pull, ins } => {
             let shapes = shapes_of(task, ins);
             let job = ViewJob {
                 task: &*task,
@@ -83,12 +83,12 @@ pub(crate) fn make_result<C: Chunks>(
             };
             pull_result::<C>(store, access, &job, room)
         }
-        Op::Copy { .. } => {
+        Way::Copying => {
             let before = room.len() - result_bytes(task);
             let (scratch, output) = room.split_at_mut(before);
             copy_region::<C>(store, access, task, output, scratch)
         }
-        _ => match folded_map(task) {
+        Way::Computing => match folded_map(task) {
             Some(map) => fold_by_strips::<C>(store, access, task, &map, room, words),
             None => match part_merge(task) {
                 Some(merge) => merge_by_parts::<C>(store, access, task, &merge, room),
@@ -198,7 +198,7 @@ fn map_shown<C: Chunks>(
     requires belongs { C.belongs store.now access.old }
     requires may { MayRead task.now (C.may_get store.now access.old) }
     requires input { MapsMade task.now input.now.place input.now.maker }
-    requires view { IsViewOperation (task_op input.now.maker) }
+    requires view { IsMadeByView input.now }
     requires room { room_bytes task.now ≤ length room.old }
     requires words { kernel_words task.now ≤ length words.old }
     ensures open { StaysOpen (C.belongs store.now access.new) (C.may_get store.now access.old)
@@ -216,15 +216,11 @@ fn map_shown<C: Chunks>(
         (C.tally access.old) (C.tally access.new)) }
     ensures cause { IfErr result (IsOwnFault task.now (C.shown access.old) (C.shown access.new)) }
 {
-    let Op::Pull { pull, ins, .. } = input.maker.operation() else {
-        unreachable!()
-    };
-    let ins = ins.as_slice();
-    let shapes = shapes_of(&input.maker, ins);
+    let shapes = shapes_of(&input.maker, input.ins);
     let job = ViewJob {
         task: &input.maker,
-        pull,
-        ins,
+        pull: input.pull,
+        ins: input.ins,
         shapes: shapes.as_slice(),
     };
     match only_chunk(&job) {

@@ -1,9 +1,9 @@
 //! Which maps are made slab by slab: those of which a view makes one of the two inputs where it is
 //! read, and takes its elements from one stored chunk. And how that chunk is read.
-ghost use Rattle.std.specs.Prelude.{◌≡◌, ◌+◌, ◌*◌, ◌<◌, ◌≤◌, IfSome, IfErr, OnOk, length};
+ghost use Rattle.std.specs.Prelude.{◌≡◌, ◌*◌, ◌<◌, IfSome, IfErr, OnOk, length};
 ghost use Rattle.std.specs.Bool.{OnTrue};
 ghost use Rattle.cu_num.specs.Dtype.{size_of};
-ghost use Rattle.cu_op.specs.TaskView.{task_op, walk_at};
+ghost use Rattle.cu_op.specs.TaskView.{walk_at};
 ghost use Rattle.cu_region.specs.Calls.{Made};
 ghost use Rattle.cu_region.specs.Writing.{AreElements};
 ghost use Rattle.cu_store.specs.Chunks.{Adds, StaysOpen};
@@ -13,9 +13,8 @@ ghost use Rattle.cu_task.specs.OfTask.{calls_for_walk, tally_for_walk};
 ghost use Rattle.cu_task.specs.OfTask.{HoldsFor, IsOwnFault, IsSure, MayRead};
 ghost use Rattle.cu_task.specs.Slabs.{front_room, input_sizes, input_type, made_type};
 ghost use Rattle.cu_task.specs.Slabs.{ArePartedSizes, AreSlabSizes, FitsSlabs, IsOnlyNeeded};
-ghost use Rattle.cu_task.specs.Slabs.{IsSlabJob, MapsMade, MapsTwo, ShowsInput};
+ghost use Rattle.cu_task.specs.Slabs.{IsMadeByView, IsSlabJob, MapsMade, MapsTwo, ShowsInput};
 ghost use Rattle.cu_task.specs.ViewJobs.{source_of_chunk, IsViewJob};
-ghost use Rattle.cu_view.specs.Planned.{IsViewOperation};
 
 use crate::inner::inner_task;
 use crate::inputs::{input_walk, walk_bytes};
@@ -23,9 +22,10 @@ use crate::results::result_bytes;
 use crate::views::{
     SourceChunk, ViewJob, fetch_front, front_bytes, is_needed, needed_hull, source_array,
 };
+use crate::ways::{Way, way_of};
 use cu_grid::Region;
 use cu_num::size;
-use cu_op::{Op, PlanTask};
+use cu_op::PlanTask;
 use cu_origin::Pull;
 use cu_shape::{Dims, difference};
 use cu_store::{Chunks, TaskFault};
@@ -35,11 +35,15 @@ use cu_view_box::Block;
 /// or second cache.
 const SLAB: usize = 1 << 15;
 
-/// What makes an input of a task where it is read, and the input's place.
+/// The view that makes an input of a task where it is read, and the input's place.
 #[derive(Drop)]
 pub(crate) struct MadeInput<'a> {
     /// What makes it.
     pub(crate) maker: PlanTask<'a>,
+    /// The view of which that is a task.
+    pub(crate) pull: &'a Pull,
+    /// The numbers of the view's sources.
+    pub(crate) ins: &'a [u32],
     /// Its place among the task's inputs.
     pub(crate) place: usize,
 }
@@ -85,11 +89,9 @@ pub(crate) struct SlabJob<'a> {
 /// one, if it does so of both.
 pub(crate) fn viewed_input<'a>(task: &PlanTask<'a>) -> Option<MadeInput<'a>>
     ensures input { IfSome result (λ m. MapsMade task.now m.place m.maker) }
-    ensures view { IfSome result (λ m. IsViewOperation (task_op m.maker)) }
+    ensures view { IfSome result (λ m. IsMadeByView m) }
 {
-    let Op::Map { .. } = task.operation() else {
-        return None;
-    };
+    task.operation().kernel()?;
     if task.input_walks().len() != 2 {
         return None;
     }
@@ -104,13 +106,18 @@ fn viewed_at<'a>(task: &PlanTask<'a>, place: usize) -> Option<MadeInput<'a>>
     requires maps { MapsTwo task.now }
     requires place { place < 2 }
     ensures input { IfSome result (λ m. MapsMade task.now m.place m.maker) }
-    ensures view { IfSome result (λ m. IsViewOperation (task_op m.maker)) }
+    ensures view { IfSome result (λ m. IsMadeByView m) }
 {
     let maker = inner_task(task, place)?;
-    let Op::Pull { .. } = maker.operation() else {
+    let Way::View { pull, ins } = way_of(&maker) else {
         return None;
     };
-    Some(MadeInput { maker, place })
+    Some(MadeInput {
+        maker,
+        pull,
+        ins,
+        place,
+    })
 }
 
 /// Whether the memory of a task has room for its slabs.

@@ -15,8 +15,9 @@ ghost use Rattle.cu_op.specs.Kernel.{kernel_value};
 ghost use Rattle.cu_op.specs.TaskView.{task_op};
 ghost use Rattle.cu_region.specs.Writing.{AreElements};
 ghost use Rattle.cu_shape.specs.Index.{differences, product};
+ghost use Rattle.cu_task.specs.Inputs.{map_code};
 ghost use Rattle.cu_task.specs.OfTask.{made_bytes, own_words};
-ghost use Rattle.cu_task.specs.Slabs.{map_code, front_room, input_type, made_type};
+ghost use Rattle.cu_task.specs.Slabs.{front_room, input_type, made_type};
 ghost use Rattle.cu_task.specs.Slabs.{input_bytes_at, other_place};
 ghost use Rattle.cu_task.specs.Slabs.{result_bytes_at, slab_dims, slab_hi, slab_lay, slab_lays};
 ghost use Rattle.cu_task.specs.Slabs.{slab_lo, view_type, HasSlabResults, IsStrip};
@@ -30,7 +31,7 @@ use crate::slab_jobs::{SlabJob, input_size, made_size};
 use crate::views::{ViewJob, made_array, result_block};
 use arrayvec::ArrayVec;
 use cu_kern::{Lay, run_kernel};
-use cu_op::{Op, PlanTask};
+use cu_op::PlanTask;
 use cu_shape::Dims;
 use cu_view::{gather, lay_constants};
 use cu_view_box::Block;
@@ -180,7 +181,7 @@ fn run_slab(
         ≡ element_bytes Little (made_type task.now)
         (element_at Little (made_type task.now) output.new k) }
 {
-    let Op::Map { kernel, .. } = task.operation() else {
+    let Some(kernel) = task.operation().kernel() else {
         unreachable!()
     };
     let made = task.array(task.operation().target());

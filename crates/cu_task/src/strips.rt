@@ -41,9 +41,7 @@ pub(crate) fn folded_map<'a>(task: &PlanTask<'a>) -> Option<PlanTask<'a>>
         return None;
     };
     let inner = inner_task(task, 0)?;
-    let Op::Map { .. } = inner.operation() else {
-        return None;
-    };
+    inner.operation().kernel()?;
     Some(inner)
 }
 
@@ -75,7 +73,7 @@ pub(crate) fn fold_map(
     else {
         unreachable!()
     };
-    let Op::Map { kernel, .. } = map.operation() else {
+    let Some(kernel) = map.operation().kernel() else {
         unreachable!()
     };
     let walk = input_walk(task, 0);

@@ -21,7 +21,7 @@ use Rattle.cu_form.specs.declared.form.Form.{Form}
 use Rattle.cu_node.specs.Info.{info_at}
 use Rattle.cu_node.specs.declared.info.NodeInfo.{NodeInfo}
 use Rattle.cu_typing.specs.Accepted.{IsElementwise}
-use Rattle.cu_expr.specs.Kernel.{aligned_grid, result_grid, loads_from, kernel_of, types_of, function_of}
+use Rattle.cu_expr.specs.Kernel.{aligned_grid, result_grid, loads_from, element_kernel, types_of, function_of}
 use Rattle.cu_expr.proofs.Maps.{elementwise_map}
 use Rattle.cu_typing.specs.Joined.{arrays_of}
 use Rattle.cu_typing.specs.declared.argument.Argument.{Argument}
@@ -35,7 +35,7 @@ use Rattle.cu_need.specs.Operands.{in_aligned, operands_of}
 use Rattle.cu_lower_reduce.specs.Copies.{aligned_places, aligned_steps}
 use Rattle.cu_lower_reduce.specs.Steps.{all_made, HasInfo, HaveEach, AreSteps, last_made}
 use Rattle.cu_lower_reduce.specs.declared.step.Step.{Step}
-use Rattle.cu_lower.specs.Parts.{array_places, instructions_of, copying, type_or_bool, map_of, only_step}
+use Rattle.cu_lower.specs.Parts.{array_places, instructions_of, copying, type_or_bool, elementwise_op, only_step}
 use Rattle.cu_lower.proofs.Arguments.{Each, arrays_told}
 use Rattle.cu_lower.proofs.Behind.{behind_hold, own_known, read_known, behind_last, own_solved, read_same, SameElements}
 use Rattle.cu_lower.proofs.StepLaws.{HaveLaws}
@@ -73,7 +73,7 @@ function_long (ElementOp.Astype d) t = refl
 function_long (ElementOp.Extreme least) t = refl
 function_long (ElementOp.Clip min max) t = refl
 
-kernel_long : (op : ElementOp) (t : Dtype) (told : List Argument) → length (kernel_of op t told) ≡ length told + own_instructions op
+kernel_long : (op : ElementOp) (t : Dtype) (told : List Argument) → length (element_kernel op t told) ≡ length told + own_instructions op
 kernel_long op t told =
     let a = length-append (loads_from 0 told) (function_of op t) in
     let l = loads_long 0 told in
@@ -219,7 +219,7 @@ module _ (op : ElementOp) (args : List Arg) where
     out = p.first + length (all_made (aligned_steps (copying p.options p.first) (array_places p.places args) (operands_of p.infos k form)))
 
     abbrev own_step : List ℕ → ℕ → List Step
-    own_step read next = only_step p.infos k (map_of p.infos op args read next) (own_need p.options.reserved p.options.split_every p.infos k form)
+    own_step read next = only_step p.infos k (elementwise_op p.infos op args read next) (own_need p.options.reserved p.options.split_every p.infos k form)
 
     module _ (t : Dtype) (typed : IsElementwise op (map (argument_of p.infos) args) t (info_at p.infos k)) (s : StandsAt p k form) where
       reads_known : HaveEach p.arrays reads (wanted (info_at p.infos k) (arrays_in p.infos args))
@@ -235,8 +235,8 @@ module _ (op : ElementOp) (args : List Arg) where
           (subst (λ (is : List NodeInfo). All A is) (arrays_told p.infos args) (elementwise_map op (map (argument_of p.infos) args) t (info_at p.infos k) typed).aligned)
 
       -- the code of the node is the kernel of its function
-      code_is : instructions_of op (map (argument_of p.infos) args) ≡ kernel_of op t (map (argument_of p.infos) args)
-      code_is = ap (λ r. kernel_of op (type_or_bool r) (map (argument_of p.infos) args)) typed.shared
+      code_is : instructions_of op (map (argument_of p.infos) args) ≡ element_kernel op t (map (argument_of p.infos) args)
+      code_is = ap (λ r. element_kernel op (type_or_bool r) (map (argument_of p.infos) args)) typed.shared
 
       fits : MapFits p.arrays (instructions_of op (map (argument_of p.infos) args)) reads out
       fits =
@@ -245,11 +245,11 @@ module _ (op : ElementOp) (args : List Arg) where
             inputs = aligned;
             kernel =
                 subst (λ (c : List Instr). KernelFits c (map (type_at p.arrays) reads) [] (type_at p.arrays out)) (sym code_is)
-                (subst (λ (d : Dtype). KernelFits (kernel_of op t (map (argument_of p.infos) args)) (map (type_at p.arrays) reads) [] d) (sym out_known.dtype)
-                (subst (λ (ts : List Dtype). KernelFits (kernel_of op t (map (argument_of p.infos) args)) ts [] (info_at p.infos k).dtype) (sym types) (elementwise_map op (map (argument_of p.infos) args) t (info_at p.infos k) typed).kernel));
+                (subst (λ (d : Dtype). KernelFits (element_kernel op t (map (argument_of p.infos) args)) (map (type_at p.arrays) reads) [] d) (sym out_known.dtype)
+                (subst (λ (ts : List Dtype). KernelFits (element_kernel op t (map (argument_of p.infos) args)) ts [] (info_at p.infos k).dtype) (sym types) (elementwise_map op (map (argument_of p.infos) args) t (info_at p.infos k) typed).kernel));
           }
 
-      projected : own_need p.options.reserved p.options.split_every p.infos k (Form.Elementwise op args) ≡ own_projection p.arrays p.options.reserved (map_of p.infos op args reads out)
+      projected : own_need p.options.reserved p.options.split_every p.infos k (Form.Elementwise op args) ≡ own_projection p.arrays p.options.reserved (elementwise_op p.infos op args reads out)
       projected =
           let r = info_at p.infos k in
           let is = arrays_in p.infos args in
@@ -280,9 +280,9 @@ module _ (op : ElementOp) (args : List Arg) where
           let told = kernel_told v.must p.infos v.meaning idx load op t args typed.accepted all in
           let rule : rule_of p.infos v.elements v.meaning k (Form.Elementwise op args) idx ≡ function_value op (result_type op t) (map (argument_at p.infos v.meaning idx) args) =
           ap (λ d. function_value op d (map (argument_at p.infos v.meaning idx) args)) typed.dtype in
-          let value : v.at out idx ≡ kernel_value (kernel_of op t (map (argument_of p.infos) args)) load =
+          let value : v.at out idx ≡ kernel_value (element_kernel op t (map (argument_of p.infos) args)) load =
           own_solved laws.operands (copying p.options p.first) ins rs own_step p.arrays sources s.made v.at solves.made
-          (record { op = map_of p.infos op args reads out; values = None; made = info_at p.infos k; need = own_need p.options.reserved p.options.split_every p.infos k (Form.Elementwise op args) }) out idx (0, omega arith, refl) (0, omega arith, refl)
+          (record { op = elementwise_op p.infos op args reads out; values = None; made = info_at p.infos k; need = own_need p.options.reserved p.options.split_every p.infos k (Form.Elementwise op args) }) out idx (0, omega arith, refl) (0, omega arith, refl)
           ∙ ap (λ (c : List Instr). kernel_value c load) code_is in
           let last : last_made p.first (steps_at p k form) ≡ out =
           (let l = behind_last laws.operands (copying p.options p.first) ins rs own_step (omega arith) in omega (arith, l)) in
@@ -311,7 +311,7 @@ module _ (op : ElementOp) (args : List Arg) where
         operands_own laws p.infos p.options p.e.out k form (array_places p.places args) p.first (own_step laws p k) (fits.1 p.first)
         (some_places p.infos p.places args ∙ sym (length-map (arrays_in p.infos args) (in_aligned (info_at p.infos k)))) refl
         (only_computed p.infos p.options.reserved k (function_bytes (info_at p.infos k) (length args + own_instructions op) (arrays_in p.infos args)) (own_need p.options.reserved p.options.split_every p.infos k form)
-        (map_of p.infos op args (reads laws p k) (out laws p k)) (info_kept p.infos k n.kept) refl refl);
+        (elementwise_op p.infos op args (reads laws p k) (out laws p k)) (info_kept p.infos k n.kept) refl refl);
     steps = λ laws p inputs k n s. let t = passed op (map (argument_of p.infos) args) (info_at p.infos k) n.typed in map_steps laws p k t.0 t.1 s;
     told = λ laws p c inputs k n s solves. let t = passed op (map (argument_of p.infos) args) (info_at p.infos k) n.typed in function_told laws p k t.0 t.1 s c solves;
   }

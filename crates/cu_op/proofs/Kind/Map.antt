@@ -123,7 +123,7 @@ map_laws code ins out = record {
   renumbered = λ f. record {
     reads = refl;
     writes = refl;
-    instructions = refl;
+    kernel = refl;
     value = λ old new at others array idx s h own.
         same_kernel code (loaded new (map f ins) others idx) (loaded old ins at idx)
         (λ k. ap (option_and_then (λ a. others a (back (grid_at new a).shape idx))) (slice_get-map f ins k)

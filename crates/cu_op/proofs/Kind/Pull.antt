@@ -108,7 +108,7 @@ pull_laws pull ins out = record {
   renumbered = λ f. record {
     reads = refl;
     writes = refl;
-    instructions = refl;
+    kernel = refl;
     value = λ old new at others array idx s h own.
         (λ i. pulled (map f ins) others (origin_of pull (shapes_same f old new ins s.reads i) (grid_same f old new out (s.writes 0 0 (omega arith)) i).shape idx)) ∙ taken f ins at others h (origin_at old pull ins out idx);
     fits = λ old new s h.

@@ -39,7 +39,7 @@ carry_kind axis group sums above out = record {
       ++ carried_chunk arrays above (slice_set c axis (slice_index c axis / group));
   input_room = λ arrays. (group + 1) * chunk_room arrays sums;
   output_room = λ arrays. chunk_room arrays out;
-  instructions = 0;
+  kernel = None;
   is_small = group ≤ 65536;
   value = λ arrays at array idx. carry_at (type_at arrays out) axis group (at sums) (carried_array at above) idx;
   reads_at = λ arrays idx a from.

@@ -47,7 +47,7 @@ group_fold_kind kind axis groups source labels out = record {
       ++ chunk_where arrays labels (label_part (grid_at arrays source) c ∷ []);
   input_room = λ arrays. chunk_room arrays source + chunk_room arrays labels;
   output_room = λ arrays. chunk_room arrays out;
-  instructions = 0;
+  kernel = None;
   is_small = Unit {0};
   value = λ arrays at array idx.
       grouped_to kind (type_at arrays out) (slice_index idx axis)

@@ -47,8 +47,8 @@ copy_tile-requires-clause-few_rows g c =
     let n = inner_counts g.row.N c.args.plane c.inner_block-tile.result c.loop-at.at c.min-count.result c.args.source.now (length c.args.target.now) c.requires.can c.requires.rows (omega arith) (omega arith) c.inner_block-tile.ensures in
     let f = c.requires.few_rows in omega (arith, n.0, f)
 
-pub copy_tile-requires-clause-few : goal.copy_tile-requires-clause-few
-copy_tile-requires-clause-few g c =
+pub copy_tile-requires-clause-room : goal.copy_tile-requires-clause-room
+copy_tile-requires-clause-room g c =
     let n = inner_counts g.row.N c.args.plane c.inner_block-tile.result c.loop-at.at c.min-count.result c.args.source.now (length c.args.target.now) c.requires.can c.requires.rows (omega arith) (omega arith) c.inner_block-tile.ensures in
     let most : c.column_length-most.result * g.row.N ≤ 256 = c.column_length-most.ensures.few in
     let low : c.inner_block-tile.result.inner.count ≤ c.column_length-most.result = omega (arith, n.1) in

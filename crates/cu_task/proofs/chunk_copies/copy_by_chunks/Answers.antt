@@ -1,19 +1,12 @@
-use Rattle.std.proofs.Common.{◌≡◌, ◌<◌, ℕ, [], length, refl, sym, ap, ◌∙◌, subst, arith}
-use Rattle.std.specs.Prelude.{slice_index_or}
+use Rattle.std.proofs.Common.{ℕ, length, sym, subst, arith}
 use Rattle.std.proofs.lemmas.Result.{err_from_is_err_and}
 use Rattle.cu_store.specs.Chunks.{Adds}
 use Rattle.cu_store.specs.Steps.{Steps}
 use Rattle.cu_store.proofs.Steps.{steps_none, steps_then, steps_wider}
 use Rattle.cu_store.proofs.StaysOpen.{open_then}
-use Rattle.cu_op.specs.Arrays.{chunk_room}
 use Rattle.cu_op.specs.Chunks.{walk}
-use Rattle.cu_op.specs.Projection.{scratch_room}
 use Rattle.cu_op.specs.Schedule.{op_of}
-use Rattle.cu_op.specs.Walks.{input_walks, walk_cells}
-use Rattle.cu_op.specs.Cells.{task_lo, task_hi}
-use Rattle.cu_op.specs.declared.operation.Op.{Op}
-use Rattle.cu_op.specs.declared.operation.Op.TheVariants.{Copy}
-use Rattle.cu_op.specs.declared.walks.Walk.{Walk}
+use Rattle.cu_op.specs.Walks.{walk_cells}
 use Rattle.cu_region.specs.Calls.{Made}
 use Rattle.cu_task.specs.Calls.{weight_in}
 use Rattle.cu_task.specs.OfTask.{calls_to_read, calls_to_write, tally_to_read, tally_to_write, ChangeBy}
@@ -21,14 +14,13 @@ use Rattle.cu_task.proofs.CopyByChunks.{carries_parts, chunk_copy}
 use Rattle.cu_task.proofs.CopyTask.{copy_walk}
 use Rattle.cu_task.proofs.Inside.{own_fault, own_key}
 use Rattle.cu_task.proofs.InputReads.{all_added, all_made, on_err_more, on_ok_then}
-use Rattle.cu_task.proofs.TaskRegions.{copied, scratch_read}
+use Rattle.cu_task.proofs.TaskKinds.{copy_some}
+use Rattle.cu_task.proofs.TaskRegions.{scratch_read}
 use Rattle.cu_task.proofs.TaskSteps.{write_fault}
 use Rattle.cu_task.proofs.chunk_copies.copy_by_chunks.Goals as goal
 
 pub input_walk-walk-requires : goal.input_walk-walk-requires
-input_walk-walk-requires g c =
-    let copy = copied (op_of c.args.task.now.plan c.args.task.now.op) c.requires.copy in
-    subst (λ (o : Op). 0 < length (input_walks c.args.task.now.plan.arrays o c.args.task.now.number)) (sym copy.is) (omega arith)
+input_walk-walk-requires g c = copy_some c.args.task.now.plan.arrays (op_of c.args.task.now.plan c.args.task.now.op) c.args.task.now.number c.requires.copy
 
 pub overflow_sub-before_parts : goal.overflow_sub-before_parts
 overflow_sub-before_parts g c =
@@ -54,16 +46,12 @@ read_parts-requires-clause-output g c =
 
 pub read_parts-requires-clause-scratch : goal.read_parts-requires-clause-scratch
 read_parts-requires-clause-scratch g c =
-    let copy = copied (op_of c.args.task.now.plan c.args.task.now.op) c.requires.copy in
-    let operation = Copy copy.region copy.source copy.out in
-    let same : c.input_walk-walk.result ≡ (walk copy.source (task_lo c.args.task.now.plan.arrays operation c.args.task.now.number) (task_hi c.args.task.now.plan.arrays operation c.args.task.now.number)) = c.input_walk-walk.ensures.walk ∙ ap (λ (o : Op). slice_index_or (input_walks c.args.task.now.plan.arrays o c.args.task.now.number) 0 (walk 0 [] [])) copy.is in
-    let own = scratch_read c.args.task.now.plan.arrays operation copy.source (0, omega arith, refl) in
-    let within = ap (scratch_room c.args.task.now.plan.arrays) copy.is in
-    let chunk = ap (λ (w : Walk). chunk_room c.args.task.now.plan.arrays w.array) same in
+    let own = copy_walk c.args.task.now.plan c.args.task.now.op c.args.task.now.number c.input_walk-walk.result c.input_walk-walk.ensures.sound c.args.task.now.operation c.requires.copy c.input_walk-walk.ensures.walk in
+    let chunk = scratch_read c.args.task.now.plan.arrays (op_of c.args.task.now.plan c.args.task.now.op) c.input_walk-walk.result.array own.copy.among in
     let made = c.result_bytes.ensures.bytes in
     let room = c.requires.room in
     let front = c.split_at_mut-scratch.ensures.front_len in
-    omega (arith, own, within, chunk, made, room, front)
+    omega (arith, chunk, made, room, front)
 
 pub write_parts-requires-clause-belongs : goal.write_parts-requires-clause-belongs
 write_parts-requires-clause-belongs g c = c.read_parts.ensures.open.belongs

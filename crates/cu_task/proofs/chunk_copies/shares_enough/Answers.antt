@@ -1,16 +1,12 @@
-use Rattle.std.proofs.Common.{◌<◌, length, sym, subst, arith}
+use Rattle.std.proofs.Common.{sym, subst}
 use Rattle.cu_grid.specs.Counts.{IsRegion}
 use Rattle.cu_op.specs.Schedule.{op_of}
-use Rattle.cu_op.specs.Walks.{input_walks}
 use Rattle.cu_op.specs.declared.layout.ArrayInfo.{ArrayInfo}
-use Rattle.cu_op.specs.declared.operation.Op.{Op}
-use Rattle.cu_task.proofs.TaskRegions.{copied}
+use Rattle.cu_task.proofs.TaskKinds.{copy_some}
 use Rattle.cu_task.proofs.chunk_copies.shares_enough.Goals as goal
 
 pub input_walk-walk-requires : goal.input_walk-walk-requires
-input_walk-walk-requires c =
-    let copy = copied (op_of c.args.task.now.plan c.args.task.now.op) c.requires in
-    subst (λ (o : Op). 0 < length (input_walks c.args.task.now.plan.arrays o c.args.task.now.number)) (sym copy.is) (omega arith)
+input_walk-walk-requires c = copy_some c.args.task.now.plan.arrays (op_of c.args.task.now.plan c.args.task.now.op) c.args.task.now.number c.requires
 
 pub array-requires : goal.array-requires
 array-requires c = c.input_walk-walk.ensures.over.0

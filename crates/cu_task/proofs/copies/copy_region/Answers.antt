@@ -1,81 +1,68 @@
-use Rattle.std.proofs.Common.{◌≡◌, ◌<◌, ◌≤◌, ◌*◌, ℕ, List, [], length, Some, refl, sym, ap, ◌∙◌, subst, arith}
-use Rattle.std.specs.Prelude.{slice_index_or, OnOk}
+use Rattle.std.proofs.Common.{◌≡◌, ◌*◌, ℕ, List, Some, refl, sym, ap, ◌∙◌, subst, arith}
+use Rattle.std.specs.Prelude.{OnOk}
 use Rattle.cu_num.specs.Dtype.{size_of}
 use Rattle.cu_num.specs.declared.types.Dtype.{Dtype}
 use Rattle.cu_shape.specs.Index.{product, differences}
 use Rattle.cu_grid.specs.Counts.{IsWithin}
+use Rattle.cu_store.specs.Chunks.{Adds}
+use Rattle.cu_store.specs.Held.{Contents}
 use Rattle.cu_store.specs.Steps.{NoChange, Steps}
-use Rattle.cu_op.specs.Arrays.{array_at, type_at, chunk_room}
+use Rattle.cu_op.specs.Arrays.{array_at, type_at}
 use Rattle.cu_op.specs.Cells.{task_lo, task_hi}
 use Rattle.cu_op.specs.Operation.{target_of}
-use Rattle.cu_op.specs.Projection.{scratch_room}
-use Rattle.cu_op.specs.Schedule.{op_of}
-use Rattle.cu_op.specs.Value.{rule, stored_inputs}
-use Rattle.cu_op.specs.Chunks.{walk}
-use Rattle.cu_op.specs.Walks.{input_walks}
-use Rattle.cu_op.specs.declared.operation.Op.{Op}
-use Rattle.cu_op.specs.declared.operation.Op.TheVariants.{Copy}
+use Rattle.cu_op.specs.PlanView.{PlanView, op_of}
+use Rattle.cu_op.specs.Value.{stored_inputs}
 use Rattle.cu_op.specs.declared.walks.Walk.{Walk}
-use Rattle.cu_op.proofs.Operations.{Fit}
-use Rattle.cu_op.proofs.TaskCells.{fit_of}
 use Rattle.cu_region.specs.Calls.{Made}
 use Rattle.cu_region.specs.Reading.{ReadsRegion}
 use Rattle.cu_region.specs.Writing.{AreElements, buffer_element}
-use Rattle.cu_task.specs.Inputs.{walk_room, IsWalkKey}
+use Rattle.cu_task.specs.Calls.{weight_in}
+use Rattle.cu_task.specs.Inputs.{IsWalkKey}
+use Rattle.cu_task.specs.Task.{HasResult}
 use Rattle.cu_task.proofs.CopyTask.{copy_walk}
 use Rattle.cu_task.proofs.Inside.{own_fault, own_key}
 use Rattle.cu_task.proofs.InputReads.{on_ok_then, on_err_more, still_first}
-use Rattle.cu_task.proofs.TaskRegions.{copied, scratch_read}
-use Rattle.cu_store.specs.Chunks.{Adds}
-use Rattle.cu_task.specs.Calls.{weight_in}
+use Rattle.cu_task.proofs.TaskKinds.{copy_some, OfCopy}
+use Rattle.cu_task.proofs.TaskRegions.{scratch_read}
 use Rattle.cu_task.proofs.copies.copy_region.Goals as goal
 
-abbrev none : Walk
-none = walk 0 [] []
+-- what is read is what the copy's rule gives
+copied_values : (p : PlanView) (k task : ℕ) (w : Walk) → OfCopy p (op_of p k) task w → (held : Contents) (out : List ℕ) → ReadsRegion (array_at p.arrays w.array) w.region.lo w.region.hi (Some held) out
+    → HasResult p k task (target_of (op_of p k)) (stored_inputs p.arrays held) out
+copied_values p k task w copy held out reads idx within =
+    let region : IsWithin w.region.lo w.region.hi idx = rw (copy.lo, copy.hi) within in
+    let typed = ap (λ (t : Dtype). buffer_element t w.region.lo w.region.hi out idx) copy.types in
+    let placed : buffer_element (type_at p.arrays (target_of (op_of p k))) w.region.lo w.region.hi out idx ≡ buffer_element (type_at p.arrays (target_of (op_of p k))) (task_lo p.arrays (op_of p k) task) (task_hi p.arrays (op_of p k) task) out idx = rw (copy.lo, copy.hi) refl in
+    copy.value (stored_inputs p.arrays held) idx ∙ reads idx region ∙ typed ∙ placed
 
 pub input_walk-walk-requires : goal.input_walk-walk-requires
-input_walk-walk-requires g c =
-    let copy = copied (op_of c.args.task.now.plan c.args.task.now.op) c.requires.copy in
-    subst (λ (o : Op). 0 < length (input_walks c.args.task.now.plan.arrays o c.args.task.now.number)) (sym copy.is) (omega arith)
+input_walk-walk-requires g c = copy_some c.args.task.now.plan.arrays (op_of c.args.task.now.plan c.args.task.now.op) c.args.task.now.number c.requires.copy
 
 pub read_walk-requires-clause-room : goal.read_walk-requires-clause-room
 read_walk-requires-clause-room g c =
-    let copy = copied (op_of c.args.task.now.plan c.args.task.now.op) c.requires.copy in
-    let operation = Copy copy.region copy.source copy.out in
-    let fit = subst (Fit c.args.task.now.plan.arrays c.args.task.now.op) copy.is (fit_of c.args.task.now.plan c.input_walk-walk.ensures.sound c.args.task.now.op c.args.task.now.operation) in
-    let same : c.input_walk-walk.result ≡ (walk copy.source (task_lo c.args.task.now.plan.arrays operation c.args.task.now.number) (task_hi c.args.task.now.plan.arrays operation c.args.task.now.number)) = c.input_walk-walk.ensures.walk ∙ ap (λ (o : Op). slice_index_or (input_walks c.args.task.now.plan.arrays o c.args.task.now.number) 0 none) copy.is in
-    let room = c.requires.output ∙ ap (λ (o : Op). product (differences (task_hi c.args.task.now.plan.arrays o c.args.task.now.number) (task_lo c.args.task.now.plan.arrays o c.args.task.now.number)) * size_of (type_at c.args.task.now.plan.arrays (target_of o))) copy.is in
-    room ∙ ap (λ (t : Dtype). product (differences (task_hi c.args.task.now.plan.arrays operation c.args.task.now.number) (task_lo c.args.task.now.plan.arrays operation c.args.task.now.number)) * size_of t) (sym fit.2.types) ∙ ap (walk_room c.args.task.now.plan.arrays) (sym same)
+    let own = copy_walk c.args.task.now.plan c.args.task.now.op c.args.task.now.number c.input_walk-walk.result c.input_walk-walk.ensures.sound c.args.task.now.operation c.requires.copy c.input_walk-walk.ensures.walk in
+    c.requires.output ∙ ap (λ (t : Dtype). product (differences (task_hi c.args.task.now.plan.arrays (op_of c.args.task.now.plan c.args.task.now.op) c.args.task.now.number) (task_lo c.args.task.now.plan.arrays (op_of c.args.task.now.plan c.args.task.now.op) c.args.task.now.number)) * size_of t) (sym own.copy.types)
+    ∙ rw (own.copy.lo, own.copy.hi) refl
 
 pub read_walk-requires-clause-scratch : goal.read_walk-requires-clause-scratch
 read_walk-requires-clause-scratch g c =
-    let copy = copied (op_of c.args.task.now.plan c.args.task.now.op) c.requires.copy in
-    let operation = Copy copy.region copy.source copy.out in
-    let same : c.input_walk-walk.result ≡ (walk copy.source (task_lo c.args.task.now.plan.arrays operation c.args.task.now.number) (task_hi c.args.task.now.plan.arrays operation c.args.task.now.number)) = c.input_walk-walk.ensures.walk ∙ ap (λ (o : Op). slice_index_or (input_walks c.args.task.now.plan.arrays o c.args.task.now.number) 0 none) copy.is in
-    let own = scratch_read c.args.task.now.plan.arrays operation copy.source (0, omega arith, refl) in
-    let scratch = subst (λ (o : Op). scratch_room c.args.task.now.plan.arrays o ≤ length c.args.scratch.now) copy.is c.requires.scratch in
-    subst (λ (w : Walk). chunk_room c.args.task.now.plan.arrays w.array ≤ length c.args.scratch.now) (sym same) (omega (arith, own, scratch))
+    let own = copy_walk c.args.task.now.plan c.args.task.now.op c.args.task.now.number c.input_walk-walk.result c.input_walk-walk.ensures.sound c.args.task.now.operation c.requires.copy c.input_walk-walk.ensures.walk in
+    let chunk = scratch_read c.args.task.now.plan.arrays (op_of c.args.task.now.plan c.args.task.now.op) c.input_walk-walk.result.array own.copy.among in
+    let scratch = c.requires.scratch in
+    omega (arith, chunk, scratch)
 
 pub returns-clause-values : goal.returns-clause-values
 returns-clause-values g c held known =
-    let copy = copied (op_of c.args.task.now.plan c.args.task.now.op) c.requires.copy in
-    let operation = Copy copy.region copy.source copy.out in
-    let fit = subst (Fit c.args.task.now.plan.arrays c.args.task.now.op) copy.is (fit_of c.args.task.now.plan c.input_walk-walk.ensures.sound c.args.task.now.op c.args.task.now.operation) in
-    let same : c.input_walk-walk.result ≡ (walk copy.source (task_lo c.args.task.now.plan.arrays operation c.args.task.now.number) (task_hi c.args.task.now.plan.arrays operation c.args.task.now.number)) = c.input_walk-walk.ensures.walk ∙ ap (λ (o : Op). slice_index_or (input_walks c.args.task.now.plan.arrays o c.args.task.now.number) 0 none) copy.is in
     let own = copy_walk c.args.task.now.plan c.args.task.now.op c.args.task.now.number c.input_walk-walk.result c.input_walk-walk.ensures.sound c.args.task.now.operation c.requires.copy c.input_walk-walk.ensures.walk in
     let still = still_first (IsWalkKey c.args.task.now.plan.arrays c.input_walk-walk.result) held (g.C.Chunks.shown c.args.access.now) known.0 (λ key bytes here among. known.1 key bytes (own_key c.args.task.now.plan c.input_walk-walk.ensures.sound c.args.task.now.op c.args.task.now.number c.input_walk-walk.result own.listed own.as_is key here) among) in
-    let read = subst (λ (w : Walk). OnOk c.read_walk.result (ReadsRegion (array_at c.args.task.now.plan.arrays w.array) w.region.lo w.region.hi (Some held) c.read_walk.new.out)) same (c.read_walk.ensures.read held still) in
-    on_ok_then c.read_walk.result (λ reads. subst (λ (o : Op). (idx : List ℕ) → IsWithin (task_lo c.args.task.now.plan.arrays o c.args.task.now.number) (task_hi c.args.task.now.plan.arrays o c.args.task.now.number) idx → rule o c.args.task.now.plan.arrays (stored_inputs c.args.task.now.plan.arrays held) (target_of o) idx ≡ buffer_element (type_at c.args.task.now.plan.arrays (target_of o)) (task_lo c.args.task.now.plan.arrays o c.args.task.now.number) (task_hi c.args.task.now.plan.arrays o c.args.task.now.number) c.read_walk.new.out idx) (sym copy.is)
-    (λ idx w. reads idx w ∙ ap (λ (t : Dtype). buffer_element t (task_lo c.args.task.now.plan.arrays operation c.args.task.now.number) (task_hi c.args.task.now.plan.arrays operation c.args.task.now.number) c.read_walk.new.out idx) fit.2.types)) read
+    on_ok_then c.read_walk.result
+    (λ reads. copied_values c.args.task.now.plan c.args.task.now.op c.args.task.now.number c.input_walk-walk.result own.copy held c.read_walk.new.out reads)
+    (c.read_walk.ensures.read held still)
 
 pub returns-clause-elements : goal.returns-clause-elements
 returns-clause-elements g c =
-    let copy = copied (op_of c.args.task.now.plan c.args.task.now.op) c.requires.copy in
-    let operation = Copy copy.region copy.source copy.out in
-    let fit = subst (Fit c.args.task.now.plan.arrays c.args.task.now.op) copy.is (fit_of c.args.task.now.plan c.input_walk-walk.ensures.sound c.args.task.now.op c.args.task.now.operation) in
-    let same : c.input_walk-walk.result ≡ (walk copy.source (task_lo c.args.task.now.plan.arrays operation c.args.task.now.number) (task_hi c.args.task.now.plan.arrays operation c.args.task.now.number)) = c.input_walk-walk.ensures.walk ∙ ap (λ (o : Op). slice_index_or (input_walks c.args.task.now.plan.arrays o c.args.task.now.number) 0 none) copy.is in
-    let elements = subst (λ (w : Walk). OnOk c.read_walk.result (AreElements (type_at c.args.task.now.plan.arrays w.array) c.read_walk.new.out)) same c.read_walk.ensures.elements in
-    on_ok_then c.read_walk.result (λ each. subst (λ (o : Op). AreElements (type_at c.args.task.now.plan.arrays (target_of o)) c.read_walk.new.out) (sym copy.is) (subst (λ (t : Dtype). AreElements t c.read_walk.new.out) fit.2.types each)) elements
+    let own = copy_walk c.args.task.now.plan c.args.task.now.op c.args.task.now.number c.input_walk-walk.result c.input_walk-walk.ensures.sound c.args.task.now.operation c.requires.copy c.input_walk-walk.ensures.walk in
+    on_ok_then c.read_walk.result (λ each. subst (λ (t : Dtype). AreElements t c.read_walk.new.out) own.copy.types each) c.read_walk.ensures.elements
 
 pub returns-clause-step : goal.returns-clause-step
 returns-clause-step g c =

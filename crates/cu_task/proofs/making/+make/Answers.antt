@@ -9,35 +9,32 @@ use Rattle.cu_store.proofs.StaysOpen.{open_then}
 use Rattle.cu_store.proofs.Steps.{steps_same, steps_then, steps_wider}
 use Rattle.cu_op.specs.Arrays.{type_at}
 use Rattle.cu_op.specs.Chunks.{walk}
-use Rattle.cu_op.specs.Operation.{value_array}
 use Rattle.cu_op.specs.Schedule.{op_of}
 use Rattle.cu_op.specs.Sound.{Sound}
 use Rattle.cu_op.specs.TaskView.{task_op, walk_at, IsReadAsIs, TaskView}
 use Rattle.cu_op.specs.Walks.{cells_of_walks, input_walks, walk_cells}
-use Rattle.cu_op.specs.declared.operation.Op.{Op}
 use Rattle.cu_op.specs.declared.walks.Walk.{Walk}
 use Rattle.cu_op.proofs.TaskCells.{fit_of}
 use Rattle.cu_region.specs.Calls.{Made}
 use Rattle.cu_region.specs.Writing.{AreElements}
 use Rattle.cu_store.specs.Chunks.{Adds}
 use Rattle.cu_task.specs.Calls.{chunk_calls, chunk_tally}
-use Rattle.cu_task.specs.Inputs.{last_bytes, room_of_walks, walk_room, HasRegions, IsPullOf, IsWalkKey}
+use Rattle.cu_task.specs.Inputs.{last_bytes, room_of_walks, walk_room, HasRegions, IsWalkKey}
 use Rattle.cu_task.specs.Slabs.{other_place}
 use Rattle.cu_task.specs.OfTask.{calls_for_walk, calls_for_walks, calls_to_read, cell_weight, found_bytes, held_inputs, made_bytes, tally_for_walk, tally_for_walks, tally_to_read, walks_from, weight_of_walk, AreOfItsType, HasMade, HasWalk}
-use Rattle.cu_task.specs.Task.{HasResult, IsComputing, IsCopy, IsTaskKey}
+use Rattle.cu_task.specs.Task.{HasResult, IsTaskKey}
+use Rattle.cu_task.specs.Ways.{IsWayOf}
 use Rattle.cu_task.specs.TaskRoom.{output_in, found_values_in}
-use Rattle.cu_task.proofs.CopyTask.{copies_whole}
 use Rattle.cu_task.proofs.InputReads.{all_added, all_made, on_err_more, on_ok_then, regions_more, still_after, still_fewer}
-use Rattle.cu_task.proofs.Inside.{computed_calls, computed_tally, own_fault, own_key, own_sure, read_has, read_of, scratch_of_work, steps_of_own, stored_calls, stored_tally}
+use Rattle.cu_task.proofs.Inside.{own_fault, own_key, own_sure, read_has, read_of, scratch_of_work, steps_of_own, stored_calls, stored_tally}
 use Rattle.cu_task.proofs.JobViews.{job_is_view}
 use Rattle.cu_task.proofs.MadeParts.{alike_made, at_end, later_fault, next_walk}
-use Rattle.cu_task.proofs.PullTask.{of_pull}
 use Rattle.cu_task.proofs.PartialFolds.{fold_computes, fold_stores}
 use Rattle.cu_task.proofs.SlabReads.{on_ok_always}
-use Rattle.cu_task.proofs.SlabTask.{map_stores, placed_calls, placed_rooms, placed_tally, slabs_elements, slabs_made}
-use Rattle.cu_task.proofs.StripTask.{folded_calls, folded_made, folded_tally, map_computes}
+use Rattle.cu_task.proofs.SlabTask.{placed_calls, placed_rooms, placed_tally, slabs_elements, slabs_made}
+use Rattle.cu_task.proofs.StripTask.{folded_calls, folded_made, folded_tally}
 use Rattle.cu_task.proofs.Tails.{last_left, last_of_part, last_part, last_with, length-last_bytes, part_before_last}
-use Rattle.cu_task.proofs.TaskKinds.{computing, none_stored}
+use Rattle.cu_task.proofs.TaskKinds.{computed_calls, computed_tally, none_stored, of_copy, of_map, of_pull}
 use Rattle.cu_task.proofs.TaskRegions.{scratch_read}
 use Rattle.cu_task.proofs.TaskRooms.{kept_computing}
 use Rattle.cu_task.proofs.making.+make.Goals as goal
@@ -55,23 +52,27 @@ make_result-compute_result-requires g t c κs sub = (
         search rules,
         (
           c.requires.belongs,
-          (c.requires.may, (subst IsComputing c.operation.ensures.operation (computing c.operation.result.now c.in_default.not-Pull c.in_default.not-Copy), (c.requires.room, c.requires.words))),
+          (c.requires.may, (subst (IsWayOf (op_of c.args.task.now.plan c.args.task.now.op)) c.in-Computing.is c.way_of.ensures.way, (c.requires.room, c.requires.words))),
         ),
       ),
     ),
   ),
 )
 
+pub make_result-shapes_of-shapes-requires-clause-few : goal.make_result-shapes_of-shapes-requires-clause-few
+make_result-shapes_of-shapes-requires-clause-few g t c =
+    let way = subst (IsWayOf (op_of c.args.task.now.plan c.args.task.now.op)) c.in-View.is c.way_of.ensures.way in
+    way.1
+
 pub make_result-shapes_of-shapes-requires-clause-within : goal.make_result-shapes_of-shapes-requires-clause-within
 make_result-shapes_of-shapes-requires-clause-within g t c =
-    let is : IsPullOf (op_of c.args.task.now.plan c.args.task.now.op) c.in-Pull.pull c.as_slice-ins.result.now = subst (λ (o : Op). IsPullOf o c.in-Pull.pull c.as_slice-ins.result.now) (sym (sym c.operation.ensures.operation ∙ c.in-Pull.is)) (refl, c.as_slice-ins.ensures.value) in
-    (of_pull c.args.task.now.plan c.args.task.now.op (op_of c.args.task.now.plan c.args.task.now.op) c.args.task.now.number c.in-Pull.pull c.as_slice-ins.result.now (fit_of c.args.task.now.plan c.operation.ensures.sound c.args.task.now.op c.args.task.now.operation) is).reads
+    let way = subst (IsWayOf (op_of c.args.task.now.plan c.args.task.now.op)) c.in-View.is c.way_of.ensures.way in
+    (of_pull c.args.task.now.plan c.args.task.now.op (op_of c.args.task.now.plan c.args.task.now.op) c.args.task.now.number c.in-View.pull.now c.in-View.ins.now (fit_of c.args.task.now.plan c.way_of.ensures.sound c.args.task.now.op c.args.task.now.operation) way.0).reads
 
 pub make_result-pull_result-requires-clause-job : goal.make_result-pull_result-requires-clause-job
 make_result-pull_result-requires-clause-job g t c =
-    let is : IsPullOf (op_of c.args.task.now.plan c.args.task.now.op) c.in-Pull.pull c.as_slice-ins.result.now = subst (λ (o : Op). IsPullOf o c.in-Pull.pull c.as_slice-ins.result.now) (sym (sym c.operation.ensures.operation ∙ c.in-Pull.is)) (refl, c.as_slice-ins.ensures.value) in
-    let few : length c.as_slice-ins.result.now ≤ 8 = search rules in
-    job_is_view _ c.operation.ensures.sound is few (search rules)
+    let way = subst (IsWayOf (op_of c.args.task.now.plan c.args.task.now.op)) c.in-View.is c.way_of.ensures.way in
+    job_is_view _ c.way_of.ensures.sound way.0 way.1 (search rules)
 
 pub make_result-pull_result-requires-clause-room : goal.make_result-pull_result-requires-clause-room
 make_result-pull_result-requires-clause-room g t c =
@@ -100,56 +101,59 @@ make_result-overflow_sub-before g t c =
     let made = c.result_bytes.ensures.bytes in
     omega (arith, most, made)
 
-pub make_result-returns-in-Pull-clause-made : goal.make_result-returns-in-Pull-clause-made
-make_result-returns-in-Pull-clause-made g t c held still =
-    let is : IsPullOf (op_of c.args.task.now.plan c.args.task.now.op) c.in-Pull.pull c.as_slice-ins.result.now = subst (λ (o : Op). IsPullOf o c.in-Pull.pull c.as_slice-ins.result.now) (sym (sym c.operation.ensures.operation ∙ c.in-Pull.is)) (refl, c.as_slice-ins.ensures.value) in
-    let whole = (of_pull c.args.task.now.plan c.args.task.now.op (op_of c.args.task.now.plan c.args.task.now.op) c.args.task.now.number c.in-Pull.pull c.as_slice-ins.result.now (fit_of c.args.task.now.plan c.operation.ensures.sound c.args.task.now.op c.args.task.now.operation) is).whole in
+pub make_result-returns-in-View-clause-made : goal.make_result-returns-in-View-clause-made
+make_result-returns-in-View-clause-made g t c held still =
+    let way = subst (IsWayOf (op_of c.args.task.now.plan c.args.task.now.op)) c.in-View.is c.way_of.ensures.way in
+    let view = (of_pull c.args.task.now.plan c.args.task.now.op (op_of c.args.task.now.plan c.args.task.now.op) c.args.task.now.number c.in-View.pull.now c.in-View.ins.now (fit_of c.args.task.now.plan c.way_of.ensures.sound c.args.task.now.op c.args.task.now.operation) way.0) in
     on_ok_then c.pull_result.result
-    (λ made. alike_made c.args.task.now c.operation.ensures.sound held (g.C.Chunks.shown c.args.access.now) _ _ whole (ap value_array (sym c.operation.ensures.operation ∙ c.in-Pull.is)) still made)
+    (λ made. alike_made c.args.task.now c.way_of.ensures.sound held (g.C.Chunks.shown c.args.access.now) _ _ view.whole view.stores still made)
     (c.pull_result.ensures.values still.now (still.told, still.steady))
 
-pub make_result-returns-in-Pull-clause-elements : goal.make_result-returns-in-Pull-clause-elements
-make_result-returns-in-Pull-clause-elements g t c =
+pub make_result-returns-in-View-clause-elements : goal.make_result-returns-in-View-clause-elements
+make_result-returns-in-View-clause-elements g t c =
+    let way = subst (IsWayOf (op_of c.args.task.now.plan c.args.task.now.op)) c.in-View.is c.way_of.ensures.way in
+    let view = (of_pull c.args.task.now.plan c.args.task.now.op (op_of c.args.task.now.plan c.args.task.now.op) c.args.task.now.number c.in-View.pull.now c.in-View.ins.now (fit_of c.args.task.now.plan c.way_of.ensures.sound c.args.task.now.op c.args.task.now.operation) way.0) in
     on_ok_then c.pull_result.result
-    (λ elements. record { output = elements; values = λ array is. absurd (none_stored array (sym (ap value_array (sym c.operation.ensures.operation ∙ c.in-Pull.is)) ∙ is)) })
+    (λ elements. record { output = elements; values = λ array is. absurd (none_stored array (sym view.stores ∙ is)) })
     c.pull_result.ensures.elements
 
-pub make_result-returns-in-Pull-clause-all : goal.make_result-returns-in-Pull-clause-all
-make_result-returns-in-Pull-clause-all g t c sure = c.pull_result.ensures.all (own_sure c.args.task.now.plan c.args.task.now.op sure)
+pub make_result-returns-in-View-clause-all : goal.make_result-returns-in-View-clause-all
+make_result-returns-in-View-clause-all g t c sure = c.pull_result.ensures.all (own_sure c.args.task.now.plan c.args.task.now.op sure)
 
-pub make_result-returns-in-Pull-clause-called : goal.make_result-returns-in-Pull-clause-called
-make_result-returns-in-Pull-clause-called g t c sure = c.pull_result.ensures.called (own_sure c.args.task.now.plan c.args.task.now.op sure)
+pub make_result-returns-in-View-clause-called : goal.make_result-returns-in-View-clause-called
+make_result-returns-in-View-clause-called g t c sure = c.pull_result.ensures.called (own_sure c.args.task.now.plan c.args.task.now.op sure)
 
-pub make_result-returns-in-Copy-clause-made : goal.make_result-returns-in-Copy-clause-made
-make_result-returns-in-Copy-clause-made g t c held still =
+pub make_result-returns-in-Copying-clause-made : goal.make_result-returns-in-Copying-clause-made
+make_result-returns-in-Copying-clause-made g t c held still =
     let task = c.args.task.now in
-    let copy : IsCopy (op_of c.args.task.now.plan c.args.task.now.op) = subst IsCopy (sym (sym c.operation.ensures.operation ∙ c.in-Copy.is)) tt in
+    let copy = of_copy c.args.task.now.plan c.args.task.now.op (op_of c.args.task.now.plan c.args.task.now.op) c.args.task.now.number (fit_of c.args.task.now.plan c.way_of.ensures.sound c.args.task.now.op c.args.task.now.operation) (subst (IsWayOf (op_of c.args.task.now.plan c.args.task.now.op)) c.in-Copying.is c.way_of.ensures.way) in
     let made = c.result_bytes.ensures.bytes in
     let most = c.requires.room in
     let back = c.split_at_mut-scratch.ensures.back_len in
     let long = c.copy_region.auto.output in
     let tail = last_part c.copy_region.new.scratch c.copy_region.new.output (made_bytes c.args.task.now) (omega (arith, made, most, back, long)) in
     on_ok_then c.copy_region.result
-    (λ made. alike_made c.args.task.now c.operation.ensures.sound held (g.C.Chunks.shown c.args.access.now) _ _ (copies_whole c.args.task.now.plan.arrays (op_of c.args.task.now.plan c.args.task.now.op) copy) (ap value_array (sym c.operation.ensures.operation ∙ c.in-Copy.is)) still (subst (HasMade task _) (sym tail) made))
+    (λ made. alike_made c.args.task.now c.way_of.ensures.sound held (g.C.Chunks.shown c.args.access.now) _ _ copy.whole copy.stores still (subst (HasMade task _) (sym tail) made))
     (c.copy_region.ensures.values still.now (still.told, still.steady))
 
-pub make_result-returns-in-Copy-clause-elements : goal.make_result-returns-in-Copy-clause-elements
-make_result-returns-in-Copy-clause-elements g t c =
+pub make_result-returns-in-Copying-clause-elements : goal.make_result-returns-in-Copying-clause-elements
+make_result-returns-in-Copying-clause-elements g t c =
     let task = c.args.task.now in
+    let copy = of_copy c.args.task.now.plan c.args.task.now.op (op_of c.args.task.now.plan c.args.task.now.op) c.args.task.now.number (fit_of c.args.task.now.plan c.way_of.ensures.sound c.args.task.now.op c.args.task.now.operation) (subst (IsWayOf (op_of c.args.task.now.plan c.args.task.now.op)) c.in-Copying.is c.way_of.ensures.way) in
     let made = c.result_bytes.ensures.bytes in
     let most = c.requires.room in
     let back = c.split_at_mut-scratch.ensures.back_len in
     let long = c.copy_region.auto.output in
     let tail = last_part c.copy_region.new.scratch c.copy_region.new.output (made_bytes c.args.task.now) (omega (arith, made, most, back, long)) in
     on_ok_then c.copy_region.result
-    (λ elements. record { output = subst (AreOfItsType task) (sym tail) elements; values = λ array is. absurd (none_stored array (sym (ap value_array (sym c.operation.ensures.operation ∙ c.in-Copy.is)) ∙ is)) })
+    (λ elements. record { output = subst (AreOfItsType task) (sym tail) elements; values = λ array is. absurd (none_stored array (sym copy.stores ∙ is)) })
     c.copy_region.ensures.elements
 
-pub make_result-returns-in-Copy-clause-all : goal.make_result-returns-in-Copy-clause-all
-make_result-returns-in-Copy-clause-all g t c _ = c.copy_region.ensures.all
+pub make_result-returns-in-Copying-clause-all : goal.make_result-returns-in-Copying-clause-all
+make_result-returns-in-Copying-clause-all g t c _ = c.copy_region.ensures.all
 
-pub make_result-returns-in-Copy-clause-called : goal.make_result-returns-in-Copy-clause-called
-make_result-returns-in-Copy-clause-called g t c _ = c.copy_region.ensures.called
+pub make_result-returns-in-Copying-clause-called : goal.make_result-returns-in-Copying-clause-called
+make_result-returns-in-Copying-clause-called g t c _ = c.copy_region.ensures.called
 
 -- ---- compute_result
 
@@ -316,7 +320,7 @@ fold_by_strips-read_inputs-requires g t c κs sub =
     let map = c.args.map.now in
     let st = c.requires.map.inside in
     let before = st.before in
-    let own = kept_computing map.plan.arrays (op_of map.plan map.op) map.number (map_computes (op_of map.plan map.op) c.requires.map.map) in
+    let own = kept_computing map.plan.arrays (op_of map.plan map.op) map.number (of_map (op_of map.plan map.op) c.requires.map.map).computes in
     let room = c.requires.room in
     let made = c.result_bytes.ensures.bytes in
     let strip = c.kept_bytes.ensures in
@@ -371,7 +375,7 @@ fold_by_strips-overflow_sub-before_inputs g t c =
 pub fold_by_strips-fold_map-requires-clause-inputs : goal.fold_by_strips-fold_map-requires-clause-inputs
 fold_by_strips-fold_map-requires-clause-inputs g t c =
     let map = c.args.map.now in
-    let own = kept_computing map.plan.arrays (op_of map.plan map.op) map.number (map_computes (op_of map.plan map.op) c.requires.map.map) in
+    let own = kept_computing map.plan.arrays (op_of map.plan map.op) map.number (of_map (op_of map.plan map.op) c.requires.map.map).computes in
     let room = c.requires.room in
     let made = c.result_bytes.ensures.bytes in
     let strip = c.kept_bytes.ensures in
@@ -417,7 +421,7 @@ pub fold_by_strips-returns-clause-made : goal.fold_by_strips-returns-clause-made
 fold_by_strips-returns-clause-made g t c held still =
     let task = c.args.task.now in
     let map = c.args.map.now in
-    let own = kept_computing map.plan.arrays (op_of map.plan map.op) map.number (map_computes (op_of map.plan map.op) c.requires.map.map) in
+    let own = kept_computing map.plan.arrays (op_of map.plan map.op) map.number (of_map (op_of map.plan map.op) c.requires.map.map).computes in
     let room = c.requires.room in
     let made = c.result_bytes.ensures.bytes in
     let strip = c.kept_bytes.ensures in
@@ -833,22 +837,24 @@ read_input-returns-in-Some-clause-cause g t c =
 
 -- ---- map_shown
 
+pub map_shown-shapes_of-shapes-requires-clause-few : goal.map_shown-shapes_of-shapes-requires-clause-few
+map_shown-shapes_of-shapes-requires-clause-few g t c = c.requires.view.few
+
 pub map_shown-shapes_of-shapes-requires-clause-within : goal.map_shown-shapes_of-shapes-requires-clause-within
 map_shown-shapes_of-shapes-requires-clause-within g t c =
     let maker = c.args.input.now.maker in
-    let is : IsPullOf (task_op c.args.input.now.maker) c.in-Pull.pull c.as_slice-ins.result.now = subst (λ (o : Op). IsPullOf o c.in-Pull.pull c.as_slice-ins.result.now) (sym (sym c.operation.ensures.operation ∙ c.in-Pull.is)) (refl, c.as_slice-ins.ensures.value) in
-    (of_pull maker.plan maker.op (task_op maker) maker.number c.in-Pull.pull c.as_slice-ins.result.now (fit_of maker.plan c.operation.ensures.sound maker.op maker.operation) is).reads
+    let view = c.requires.view in
+    (of_pull maker.plan maker.op (task_op maker) maker.number c.args.input.now.pull.now c.args.input.now.ins.now (fit_of maker.plan view.sound maker.op maker.operation) view.view).reads
 
 pub map_shown-only_chunk-requires : goal.map_shown-only_chunk-requires
 map_shown-only_chunk-requires g t c =
-    let is : IsPullOf (task_op c.args.input.now.maker) c.in-Pull.pull c.as_slice-ins.result.now = subst (λ (o : Op). IsPullOf o c.in-Pull.pull c.as_slice-ins.result.now) (sym (sym c.operation.ensures.operation ∙ c.in-Pull.is)) (refl, c.as_slice-ins.ensures.value) in
-    let few : length c.as_slice-ins.result.now ≤ 8 = search rules in
-    job_is_view _ c.operation.ensures.sound is few (search rules)
+    let view = c.requires.view in
+    job_is_view _ view.sound view.view view.few (search rules)
 
 pub map_shown-compute_result-requires : goal.map_shown-compute_result-requires
 map_shown-compute_result-requires g t c κs sub = (
   omega (arith, c.decreases),
-  (search rules, (search rules, (search rules, (c.requires.belongs, (c.requires.may, (map_computes (task_op c.args.task.now) c.requires.input.maps.map, (c.requires.room, c.requires.words))))))),
+  (search rules, (search rules, (search rules, (c.requires.belongs, (c.requires.may, ((of_map (task_op c.args.task.now) c.requires.input.maps.map).computes, (c.requires.room, c.requires.words))))))),
 )
 
 pub map_shown-map_from_chunk-requires : goal.map_shown-map_from_chunk-requires
@@ -890,7 +896,7 @@ map_shown-map_from_chunk-requires g t c κs sub =
 pub map_from_chunk-compute_result-requires : goal.map_from_chunk-compute_result-requires
 map_from_chunk-compute_result-requires g t c κs sub = (
   omega (arith, c.decreases),
-  (search rules, (search rules, (search rules, (c.requires.belongs, (c.requires.may, (map_computes (task_op c.args.task.now) c.requires.input.maps.map, (c.requires.room, c.requires.words))))))),
+  (search rules, (search rules, (search rules, (c.requires.belongs, (c.requires.may, ((of_map (task_op c.args.task.now) c.requires.input.maps.map).computes, (c.requires.room, c.requires.words))))))),
 )
 
 -- ---- map_by_slabs
@@ -981,7 +987,7 @@ map_by_slabs-returns-clause-made g t c held still =
       output = subst (HasMade task (held_inputs task held)) (sym tail)
           (slabs_made task c.args.job.now c.requires.job c.read_shown.new.front (c.read_shown.new.room ++ c.split_at_mut-reads.result.1.now) c.make_slabs.new.memory (omega (arith, own, fits, back, reads, gap, long, all, new)) c.make_slabs.ensures
           held c.read_shown.new.room c.split_at_mut-reads.result.1.now refl (omega (arith, own, fits, back, reads, gap)) (omega (arith, own, fits, back, reads, long)) (c.in_ok-read_shown.ensures.shown held still) (c.in_ok-read_shown.ensures.other held still));
-      values = λ array is. absurd (none_stored array (sym (map_stores (task_op task) c.requires.job.maps.maps.map) ∙ is));
+      values = λ array is. absurd (none_stored array (sym (of_map (task_op task) c.requires.job.maps.maps.map).stores ∙ is));
     }
 
 pub map_by_slabs-returns-clause-elements : goal.map_by_slabs-returns-clause-elements
@@ -999,7 +1005,7 @@ map_by_slabs-returns-clause-elements g t c =
     record {
       output = subst (AreOfItsType task) (sym tail)
           (slabs_elements task c.args.job.now c.requires.job c.read_shown.new.front (c.read_shown.new.room ++ c.split_at_mut-reads.result.1.now) c.make_slabs.new.memory (omega (arith, own, fits, back, reads, gap, long, all, new)) c.make_slabs.ensures);
-      values = λ array is. absurd (none_stored array (sym (map_stores (task_op task) c.requires.job.maps.maps.map) ∙ is));
+      values = λ array is. absurd (none_stored array (sym (of_map (task_op task) c.requires.job.maps.maps.map).stores ∙ is));
     }
 
 pub map_by_slabs-returns-clause-all : goal.map_by_slabs-returns-clause-all

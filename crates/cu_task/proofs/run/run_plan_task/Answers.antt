@@ -16,7 +16,7 @@ use Rattle.cu_task.specs.TaskRoom.{output_in, found_values_in, AreAllOfTheirType
 use Rattle.cu_task.specs.declared.room.TaskRoom.{TaskRoom}
 use Rattle.cu_task.proofs.InputReads.{on_err_more, on_ok_then, all_added, all_made, still_first}
 use Rattle.cu_task.proofs.Inside.{scratch_of_work}
-use Rattle.cu_task.proofs.TaskKinds.{lent_parts}
+use Rattle.cu_task.proofs.TaskRooms.{lent_parts}
 use Rattle.cu_task.proofs.TaskSteps.{write_fault}
 use Rattle.cu_store.proofs.StaysOpen.{open_then}
 use Rattle.cu_task.proofs.run.run_plan_task.Goals as goal

@@ -1,11 +1,8 @@
-use Rattle.std.proofs.Common.{◌≡◌, ◌<◌, ◌≤◌, ◌+◌, ◌-◌, ◌*◌, ◌++◌, ℕ, List, length, refl, ap, sym, ◌∙◌, subst, arith}
+use Rattle.std.proofs.Common.{◌≡◌, ◌+◌, ◌-◌, ◌*◌, ◌++◌, ℕ, List, length, refl, ap, sym, ◌∙◌, arith}
 use Rattle.std.proofs.lemmas.List.{length-append}
 use Rattle.cu_num.specs.Dtype.{size_of}
-use Rattle.cu_shape.specs.Index.{product}
 use Rattle.cu_task.proofs.SlabSteps.{inputs_kept, results_kept, shown_axis, shown_rows, shown_type, slab_made, slab_room, strip_count, IsSlabStep}
-use Rattle.cu_task.specs.OfTask.{made_bytes}
-use Rattle.cu_task.specs.Slabs.{input_start, input_type, made_type, slab_dims, view_type}
-use Rattle.cu_task.specs.ViewJobs.{view_of_chunk}
+use Rattle.cu_task.specs.Slabs.{input_start, input_type, made_type, view_type}
 use Rattle.cu_task.proofs.slabs.make_slab.Goals as goal
 
 pub overflow_mul-from : goal.overflow_mul-from

@@ -1,7 +1,7 @@
-use Rattle.std.proofs.Common.{◌≡◌, ◌<◌, ◌≤◌, ◌+◌, ◌-◌, ◌*◌, ℕ, List, length, inl, inr, refl, ap, sym, ◌∙◌, subst, arith}
+use Rattle.std.proofs.Common.{◌≡◌, ◌-◌, ◌*◌, ℕ, List, inl, inr, refl, ap, sym, ◌∙◌, subst, arith}
 use Rattle.std.proofs.lemmas.Bool.{cases_lt}
 use Rattle.cu_task.proofs.SlabPlaces.{rows_most}
-use Rattle.cu_task.specs.Slabs.{input_bytes_at, made_type, mapped_value, result_bytes_at, HasSlabResults, IsValue}
+use Rattle.cu_task.specs.Slabs.{input_bytes_at, made_type, mapped_value, result_bytes_at, IsValue}
 use Rattle.cu_task.proofs.slabs.make_slabs.Goals as goal
 
 pub loop-end-init : goal.loop-end-init

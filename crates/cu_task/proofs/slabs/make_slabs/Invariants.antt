@@ -1,4 +1,4 @@
-use Rattle.std.proofs.Common.{◌≡◌, ◌<◌, ◌≤◌, ◌*◌, ℕ, length}
+use Rattle.std.proofs.Common.{◌≡◌, ◌<◌, ◌≤◌, ◌*◌, ℕ}
 use Rattle.cu_task.specs.Slabs.{input_bytes_at, HasSlabResults}
 use Rattle.cu_task.proofs.slabs.make_slabs.Given as goal
 

@@ -1,4 +1,4 @@
-use Rattle.std.proofs.Common.{◌≡◌, ◌<◌, ◌*◌, ℕ, List, length, refl, ap, sym, ◌∙◌, subst, arith}
+use Rattle.std.proofs.Common.{◌≡◌, ◌*◌, ℕ, List, refl, ap, sym, ◌∙◌, subst, arith}
 use Rattle.cu_grid.specs.Counts.{IsWithin, IsRegion}
 use Rattle.cu_num.specs.Dtype.{size_of}
 use Rattle.cu_num.specs.Element.{bytes_at, element_at, element_bytes}
@@ -17,7 +17,6 @@ use Rattle.cu_task.proofs.ViewChunks.{no_number, origin_inside}
 use Rattle.cu_task.specs.Slabs.{bytes_shown, number_shown, slab_dims, slab_hi, slab_lo, view_type}
 use Rattle.cu_task.specs.ViewJobs.{source_of_chunk, view_of_chunk}
 use Rattle.cu_task.specs.Views.{origin_in}
-use Rattle.cu_view_box.specs.Block.{IsBlock}
 use Rattle.cu_task.proofs.slabs.show_rows.Goals as goal
 
 pub slab_block-rows-requires-clause-job : goal.slab_block-rows-requires-clause-job

@@ -1,6 +1,4 @@
-use Rattle.std.proofs.Common.{◌≡◌, ◌<◌, ◌≤◌, ◌+◌, ℕ, List, length, get_or, ap, sym, ◌∙◌, subst, arith}
-use Rattle.cu_op.specs.Arrays.{grid_at}
-use Rattle.cu_shape.specs.Index.{differences}
+use Rattle.std.proofs.Common.{◌≡◌, ℕ, List, get_or, ap, ◌∙◌, arith}
 use Rattle.cu_task.proofs.SlabPlaces.{ends_before, some_axis}
 use Rattle.cu_task.specs.ViewJobs.{view_task_of}
 use Rattle.cu_task.proofs.slabs.slab_block.Goals as goal

@@ -1,15 +1,15 @@
-use Rattle.std.proofs.Common.{length, refl, sym, ap, ◌∙◌, subst, arith}
+use Rattle.std.proofs.Common.{length, sym, ap, ◌∙◌, arith}
 use Rattle.cu_num.specs.Element.{element_at}
 use Rattle.cu_num.specs.declared.layout.Endian.TheVariants.{Little}
 use Rattle.cu_op.proofs.TaskCells.{region_lengths}
 use Rattle.cu_op.specs.Arrays.{type_at}
-use Rattle.cu_op.specs.declared.operation.Op.{Op}
+use Rattle.cu_op.specs.Operation.{kernel_of}
 use Rattle.cu_op.specs.declared.walks.Walk.{Walk}
 use Rattle.cu_shape.specs.Index.{product, differences}
 use Rattle.cu_task.proofs.PartialFolds.{fold_found, results_in}
 use Rattle.cu_task.proofs.StripBytes.{written_out}
 use Rattle.cu_task.proofs.StripTask.{kernel_found}
-use Rattle.cu_task.specs.Inputs.{lays_from, IsMapOf}
+use Rattle.cu_task.specs.Inputs.{lays_from}
 use Rattle.cu_task.proofs.strips.fold_map.Goals as goal
 
 pub dtype_of-requires-2 : goal.dtype_of-requires-2
@@ -45,7 +45,7 @@ fold_unconverted-requires-clause-output c =
 pub fold_unconverted-requires-clause-kernel : goal.fold_unconverted-requires-clause-kernel
 fold_unconverted-requires-clause-kernel c =
     let found = fold_found c.args.task.now c.operation.ensures.sound (sym c.operation.ensures.operation ∙ c.in-Fold.is) c.input_walk-walk.ensures.walk c.dtype_of.ensures c.dtype_of-2.ensures c.difference.ensures in
-    let kernel = kernel_found c.args.map.now c.operation-2.ensures.sound c.in-Map.kernel (subst (λ (o : Op). IsMapOf o c.in-Map.kernel) (sym (sym c.operation-2.ensures.operation ∙ c.in-Map.is)) refl)
+    let kernel = kernel_found c.args.map.now c.operation-2.ensures.sound c.in-Some.kernel.now (ap kernel_of (sym c.operation-2.ensures.operation) ∙ c.in-Some.ensures.kernel)
     (c.lays_of-lays.ensures ∙ ap (lays_from c.args.map.now.plan.arrays 0) c.input_walks.ensures.walks)
     (found.source ∙ ap (λ (w : Walk). type_at c.args.task.now.plan.arrays w.array) c.input_walk-walk.ensures.walk ∙ sym c.requires.map.inside.typed)
     (c.difference.ensures ∙ ap (λ (w : Walk). differences w.region.hi w.region.lo) c.input_walk-walk.ensures.walk ∙ sym c.requires.map.inside.sizes) in
@@ -54,7 +54,7 @@ fold_unconverted-requires-clause-kernel c =
 pub fold_unconverted-requires-clause-lays : goal.fold_unconverted-requires-clause-lays
 fold_unconverted-requires-clause-lays c =
     let found = fold_found c.args.task.now c.operation.ensures.sound (sym c.operation.ensures.operation ∙ c.in-Fold.is) c.input_walk-walk.ensures.walk c.dtype_of.ensures c.dtype_of-2.ensures c.difference.ensures in
-    let kernel = kernel_found c.args.map.now c.operation-2.ensures.sound c.in-Map.kernel (subst (λ (o : Op). IsMapOf o c.in-Map.kernel) (sym (sym c.operation-2.ensures.operation ∙ c.in-Map.is)) refl)
+    let kernel = kernel_found c.args.map.now c.operation-2.ensures.sound c.in-Some.kernel.now (ap kernel_of (sym c.operation-2.ensures.operation) ∙ c.in-Some.ensures.kernel)
     (c.lays_of-lays.ensures ∙ ap (lays_from c.args.map.now.plan.arrays 0) c.input_walks.ensures.walks)
     (found.source ∙ ap (λ (w : Walk). type_at c.args.task.now.plan.arrays w.array) c.input_walk-walk.ensures.walk ∙ sym c.requires.map.inside.typed)
     (c.difference.ensures ∙ ap (λ (w : Walk). differences w.region.hi w.region.lo) c.input_walk-walk.ensures.walk ∙ sym c.requires.map.inside.sizes) in
@@ -65,7 +65,7 @@ fold_unconverted-requires-clause-lays c =
 pub returns-clause-values : goal.returns-clause-values
 returns-clause-values c =
     let found = fold_found c.args.task.now c.operation.ensures.sound (sym c.operation.ensures.operation ∙ c.in-Fold.is) c.input_walk-walk.ensures.walk c.dtype_of.ensures c.dtype_of-2.ensures c.difference.ensures in
-    let kernel = kernel_found c.args.map.now c.operation-2.ensures.sound c.in-Map.kernel (subst (λ (o : Op). IsMapOf o c.in-Map.kernel) (sym (sym c.operation-2.ensures.operation ∙ c.in-Map.is)) refl)
+    let kernel = kernel_found c.args.map.now c.operation-2.ensures.sound c.in-Some.kernel.now (ap kernel_of (sym c.operation-2.ensures.operation) ∙ c.in-Some.ensures.kernel)
     (c.lays_of-lays.ensures ∙ ap (lays_from c.args.map.now.plan.arrays 0) c.input_walks.ensures.walks)
     (found.source ∙ ap (λ (w : Walk). type_at c.args.task.now.plan.arrays w.array) c.input_walk-walk.ensures.walk ∙ sym c.requires.map.inside.typed)
     (c.difference.ensures ∙ ap (λ (w : Walk). differences w.region.hi w.region.lo) c.input_walk-walk.ensures.walk ∙ sym c.requires.map.inside.sizes) in
