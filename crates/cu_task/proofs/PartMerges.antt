@@ -47,22 +47,19 @@ use Rattle.cu_task.proofs.PartialValues.{number_at, reduced_given}
 use Rattle.cu_task.proofs.PullTask.{box_back}
 use Rattle.cu_task.proofs.ReductionTask.{source_walk, source_over, source_rank, count_is, kind_enough, are_elements, has_element, index, index_inside, map_is}
 use Rattle.cu_task.proofs.TaskKinds.{computed_calls, computed_tally}
-use Rattle.cu_task.proofs.TaskRooms.{merge_parts, merged, Merged, Parts}
+use Rattle.cu_task.proofs.TaskRooms.{merge_parts, of_merge, OfMerge, Parts}
 use Rattle.cu_task.proofs.ViewChunks.{within_box}
 
 -- ---- what any merge is
 
-of_merge : (op : Op) (m : PartMerge) → IsMergeOf op m.kind m.axis m.out → Merged op m.kind m.axis m.out
-of_merge op m is = merged op m.kind m.axis m.out is
-
 pub merge_computes : (op : Op) (m : PartMerge) → IsMergeOf op m.kind m.axis m.out → IsComputing op
-merge_computes op m is = subst IsComputing (sym (of_merge op m is).is) tt
+merge_computes op m is = subst IsComputing (sym (of_merge op m.kind m.axis m.out is).is) tt
 
 pub merge_stores : (op : Op) (m : PartMerge) → IsMergeOf op m.kind m.axis m.out → None ≡ value_array op
-merge_stores op m is = sym (ap value_array (of_merge op m is).is)
+merge_stores op m is = sym (ap value_array (of_merge op m.kind m.axis m.out is).is)
 
 one_region : (arrays : List ArrayInfo) (op : Op) (task : ℕ) (m : PartMerge) → IsMergeOf op m.kind m.axis m.out → input_walks arrays op task ≡ slice_index_or (input_walks arrays op task) 0 (walk 0 [] []) ∷ []
-one_region arrays op task m is = subst (λ (o : Op). input_walks arrays o task ≡ slice_index_or (input_walks arrays o task) 0 (walk 0 [] []) ∷ []) (sym (of_merge op m is).is) refl
+one_region arrays op task m is = subst (λ (o : Op). input_walks arrays o task ≡ slice_index_or (input_walks arrays o task) 0 (walk 0 [] []) ∷ []) (sym (of_merge op m.kind m.axis m.out is).is) refl
 
 -- it reads one region
 pub reads_one : (t : TaskView) (m : PartMerge) → IsMergeOf (task_op t) m.kind m.axis m.out → input_walks t.plan.arrays (task_op t) t.number ≡ walk_at t 0 ∷ []
@@ -104,7 +101,7 @@ pub record TaskMerge (p : PlanView) (op : Op) (task : ℕ) (m : PartMerge) (w : 
   pub elements : (element : List ℕ → ℤ) (output : List ℕ) → length output ≡ product (differences (task_hi p.arrays op task) (task_lo p.arrays op task)) * size_of (type_at p.arrays (target_of op))
       → HasMerged m.kind (type_at p.arrays m.out) m.axis (sizes_of w) element output → AreElements (type_at p.arrays (target_of op)) output
 
-module _ (p : PlanView) (s : Sound p) (k task : ℕ) (kind : FoldKind) (axis out : ℕ) (op : Op) (m : Merged op kind axis out) (fit : Fit p.arrays k op) (within : task < regions_of p.arrays op) where
+module _ (p : PlanView) (s : Sound p) (k task : ℕ) (kind : FoldKind) (axis out : ℕ) (op : Op) (m : OfMerge op kind axis out) (fit : Fit p.arrays k op) (within : task < regions_of p.arrays op) where
   abbrev group_sizes : List ℕ
   group_sizes = map (λ n. m.group) (grid_at p.arrays m.source).shape
 
@@ -189,7 +186,7 @@ module _ (p : PlanView) (s : Sound p) (k task : ℕ) (kind : FoldKind) (axis out
 
 -- a task of a merge
 pub task_merge : (t : TaskView) (s : Sound t.plan) (m : PartMerge) → IsMergeOf (task_op t) m.kind m.axis m.out → TaskMerge t.plan (task_op t) t.number m (walk_at t 0)
-task_merge t s m of_kind = merge_known t.plan s t.op t.number m.kind m.axis m.out (task_op t) (of_merge (task_op t) m of_kind) (fit_of t.plan s t.op t.operation) t.within
+task_merge t s m of_kind = merge_known t.plan s t.op t.number m.kind m.axis m.out (task_op t) (of_merge (task_op t) m.kind m.axis m.out of_kind) (fit_of t.plan s t.op t.operation) t.within
 
 -- its axis is one of the region that it reads
 pub axis_within : (t : TaskView) (s : Sound t.plan) (m : PartMerge) (w : Walk) → IsMergeOf (task_op t) m.kind m.axis m.out → w ≡ walk_at t 0 → IsWalkOver t.plan.arrays w

@@ -1,4 +1,4 @@
--- What is told of an operation by its kind: the way in which its tasks go, what they read and write, and the rooms of a view and of a copy.
+-- What is told of an operation by its kind: the route of its tasks, what they read and write, and the rooms of a view and of a copy.
 use Rattle.std.specs.Prelude.{slice_index, slice_index_or, sum_by, unwrap_or, IsSome}
 use Rattle.std.proofs.Common.{◌≡◌, ◌+◌, ◌*◌, ◌<◌, ◌≤◌, ℕ, suc, true, List, [], ◌∷◌, length, map, All, Contains, Option, Some, None, append-nil, refl, sym, ap, subst, arith, ◌∙◌}
 use Rattle.std.proofs.lemmas.List.Elements.{All-contains_itself}
@@ -32,7 +32,7 @@ use Rattle.cu_task.specs.Inputs.{map_code, IsMap}
 use Rattle.cu_task.specs.Task.{compared_by, kept_by, kept_room, room_beside, IsComputing, IsCopy, IsPlaceSearch, IsSomeArray}
 use Rattle.cu_task.specs.Views.{is_exact, view_calls, view_tally}
 
--- ---- ways
+-- ---- routes
 
 pub computing : (op : Op) → ((pull : View) (ins : ArrayVec ℕ 8 (Unit {0})) (out : ℕ) → op ≡ Pull pull ins out → ⊥) → ((region : List ℕ) (source out : ℕ) → op ≡ Copy region source out → ⊥) → IsComputing op
 computing (Pull pull ins out) not_pull not_copy = absurd (not_pull pull ins out refl)
@@ -203,14 +203,14 @@ stored_room arrays k op task array fit is =
 -- ---- what a task may keep, and what it makes
 
 -- so many elements of the array that is compared, where there is one
-abbrev pub beside_room : List ArrayInfo → ℕ → Option ℕ → ℕ
-beside_room arrays n None = 0
-beside_room arrays n (Some array) = n * size_of (type_at arrays array)
+abbrev pub compared_room : List ArrayInfo → ℕ → Option ℕ → ℕ
+compared_room arrays n None = 0
+compared_room arrays n (Some array) = n * size_of (type_at arrays array)
 
 -- the elements of a chunk of the tasks' grid, the values beside them, and the input regions, where they are kept, fit what an operation is lent; a
 -- copy has its elements in the room of its input regions
 pub lent_rooms : (arrays : List ArrayInfo) (k : ℕ) (op : Op) → Fit arrays k op
-    → beside_room arrays (product (task_grid arrays op).chunk) (compared_array op) + product (task_grid arrays op).chunk * size_of (type_at arrays (target_of op)) + kept_by (form_of op) (input_room arrays op)
+    → compared_room arrays (product (task_grid arrays op).chunk) (compared_array op) + product (task_grid arrays op).chunk * size_of (type_at arrays (target_of op)) + kept_by (form_of op) (input_room arrays op)
     ≤ input_room arrays op + output_room arrays op
 lent_rooms arrays k (Copy region source out) fit =
     let same : product region * size_of (type_at arrays out) ≡ product region * size_of (type_at arrays source) = ap (λ (t : Dtype). product region * size_of t) (sym fit.2.types) in

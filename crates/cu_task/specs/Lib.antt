@@ -15,4 +15,4 @@ pub mod Task
 pub mod TaskRoom
 pub mod ViewJobs
 pub mod Views
-pub mod Ways
+pub mod Routes

@@ -32,7 +32,7 @@ ghost use Rattle.cu_task.specs.Task.{IsCopy, StillHolds};
 
 use crate::inputs::{input_walk, region_bytes};
 use crate::results::result_bytes;
-use crate::ways::{Way, way_of};
+use crate::routes::{Route, route_of};
 use cu_codec::{chunk_bytes, take_part};
 use cu_grid::Region;
 use cu_num::{Endian, size};
@@ -53,8 +53,8 @@ pub(crate) fn is_copied_by_chunks(task: &PlanTask<'_>) -> bool
         ≤ made_bytes task.now) }
     ensures sound { Sound task.now.plan }
 {
-    match way_of(task) {
-        Way::Copying => shares_enough(task) && parts_fit(task, result_bytes(task)),
+    match route_of(task) {
+        Route::Copying => shares_enough(task) && parts_fit(task, result_bytes(task)),
         _ => false,
     }
 }

@@ -18,6 +18,7 @@ mod reductions;
 mod reshapes;
 mod results;
 mod room;
+mod routes;
 mod rows;
 mod run;
 mod scans;
@@ -27,7 +28,6 @@ mod slabs;
 mod straight;
 mod strips;
 mod views;
-mod ways;
 mod yards;
 
 pub use laws::{needed_chunks_law, region_law};

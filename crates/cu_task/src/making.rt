@@ -33,13 +33,13 @@ use crate::merges::{merge_by_parts, part_merge};
 use crate::pulls::pull_result;
 use crate::results::{result_bytes, value_bytes};
 use crate::room::kept_bytes;
+use crate::routes::{Route, route_of};
 use crate::slab_jobs::{
     MadeInput, SlabJob, fetch_shown, fits_slabs, only_chunk, slab_sizes, viewed_input,
 };
 use crate::slabs::make_slabs;
 use crate::strips::{fold_map, folded_map};
 use crate::views::{SourceChunk, ViewJob, front_block, front_bytes, shapes_of};
-use crate::ways::{Way, way_of};
 use cu_op::PlanTask;
 use cu_store::{Chunks, TaskFault};
 
@@ -72,8 +72,8 @@ pub(crate) fn make_result<C: Chunks>(
         (C.tally access.old) (C.tally access.new)) }
     ensures cause { IfErr result (IsOwnFault task.now (C.shown access.old) (C.shown access.new)) }
 {
-    match way_of(task) {
-        Way::View { pull, ins } => {
+    match route_of(task) {
+        Route::View { pull, ins } => {
             let shapes = shapes_of(task, ins);
             let job = ViewJob {
                 task: &*task,
@@ -83,12 +83,12 @@ pub(crate) fn make_result<C: Chunks>(
             };
             pull_result::<C>(store, access, &job, room)
         }
-        Way::Copying => {
+        Route::Copying => {
             let before = room.len() - result_bytes(task);
             let (scratch, output) = room.split_at_mut(before);
             copy_region::<C>(store, access, task, output, scratch)
         }
-        Way::Computing => match folded_map(task) {
+        Route::Computing => match folded_map(task) {
             Some(map) => fold_by_strips::<C>(store, access, task, &map, room, words),
             None => match part_merge(task) {
                 Some(merge) => merge_by_parts::<C>(store, access, task, &merge, room),

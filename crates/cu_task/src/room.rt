@@ -5,7 +5,7 @@ ghost use Rattle.cu_task.specs.TaskRoom.{output_in, room_bytes, found_values_in,
 
 use crate::inputs::input_bytes;
 use crate::results::{result_bytes, value_bytes};
-use crate::ways::{Way, way_of};
+use crate::routes::{Route, route_of};
 use cu_op::PlanTask;
 
 /// The memory that a task is lent, in its parts, once its result is made.
@@ -48,9 +48,9 @@ pub(crate) fn kept_bytes(task: &PlanTask<'_>) -> usize
     requires { kept_bytes task.now < 2 ^ 64 }
     ensures { result ≡ kept_bytes task.now }
 {
-    match way_of(task) {
-        Way::View { .. } => 0,
-        Way::Copying => 0,
-        Way::Computing => input_bytes(task),
+    match route_of(task) {
+        Route::View { .. } => 0,
+        Route::Copying => 0,
+        Route::Computing => input_bytes(task),
     }
 }

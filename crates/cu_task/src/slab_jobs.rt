@@ -19,10 +19,10 @@ ghost use Rattle.cu_task.specs.ViewJobs.{source_of_chunk, IsViewJob};
 use crate::inner::inner_task;
 use crate::inputs::{input_walk, walk_bytes};
 use crate::results::result_bytes;
+use crate::routes::{Route, route_of};
 use crate::views::{
     SourceChunk, ViewJob, fetch_front, front_bytes, is_needed, needed_hull, source_array,
 };
-use crate::ways::{Way, way_of};
 use cu_grid::Region;
 use cu_num::size;
 use cu_op::PlanTask;
@@ -91,6 +91,7 @@ pub(crate) fn viewed_input<'a>(task: &PlanTask<'a>) -> Option<MadeInput<'a>>
     ensures input { IfSome result (λ m. MapsMade task.now m.place m.maker) }
     ensures view { IfSome result (λ m. IsMadeByView m) }
 {
+    // No operation but a map has a kernel.
     task.operation().kernel()?;
     if task.input_walks().len() != 2 {
         return None;
@@ -109,7 +110,7 @@ fn viewed_at<'a>(task: &PlanTask<'a>, place: usize) -> Option<MadeInput<'a>>
     ensures view { IfSome result (λ m. IsMadeByView m) }
 {
     let maker = inner_task(task, place)?;
-    let Way::View { pull, ins } = way_of(&maker) else {
+    let Route::View { pull, ins } = route_of(&maker) else {
         return None;
     };
     Some(MadeInput {

@@ -41,6 +41,7 @@ pub(crate) fn folded_map<'a>(task: &PlanTask<'a>) -> Option<PlanTask<'a>>
         return None;
     };
     let inner = inner_task(task, 0)?;
+    // No operation but a map has a kernel.
     inner.operation().kernel()?;
     Some(inner)
 }

@@ -23,7 +23,7 @@ use Rattle.cu_task.specs.Inputs.{last_bytes, room_of_walks, walk_room, HasRegion
 use Rattle.cu_task.specs.Slabs.{other_place}
 use Rattle.cu_task.specs.OfTask.{calls_for_walk, calls_for_walks, calls_to_read, cell_weight, found_bytes, held_inputs, made_bytes, tally_for_walk, tally_for_walks, tally_to_read, walks_from, weight_of_walk, AreOfItsType, HasMade, HasWalk}
 use Rattle.cu_task.specs.Task.{HasResult, IsTaskKey}
-use Rattle.cu_task.specs.Ways.{IsWayOf}
+use Rattle.cu_task.specs.Routes.{IsRouteOf}
 use Rattle.cu_task.specs.TaskRoom.{output_in, found_values_in}
 use Rattle.cu_task.proofs.InputReads.{all_added, all_made, on_err_more, on_ok_then, regions_more, still_after, still_fewer}
 use Rattle.cu_task.proofs.Inside.{own_fault, own_key, own_sure, read_has, read_of, scratch_of_work, steps_of_own, stored_calls, stored_tally}
@@ -52,7 +52,7 @@ make_result-compute_result-requires g t c κs sub = (
         search rules,
         (
           c.requires.belongs,
-          (c.requires.may, (subst (IsWayOf (op_of c.args.task.now.plan c.args.task.now.op)) c.in-Computing.is c.way_of.ensures.way, (c.requires.room, c.requires.words))),
+          (c.requires.may, (subst (IsRouteOf (op_of c.args.task.now.plan c.args.task.now.op)) c.in-Computing.is c.route_of.ensures.route, (c.requires.room, c.requires.words))),
         ),
       ),
     ),
@@ -61,18 +61,18 @@ make_result-compute_result-requires g t c κs sub = (
 
 pub make_result-shapes_of-shapes-requires-clause-few : goal.make_result-shapes_of-shapes-requires-clause-few
 make_result-shapes_of-shapes-requires-clause-few g t c =
-    let way = subst (IsWayOf (op_of c.args.task.now.plan c.args.task.now.op)) c.in-View.is c.way_of.ensures.way in
+    let way = subst (IsRouteOf (op_of c.args.task.now.plan c.args.task.now.op)) c.in-View.is c.route_of.ensures.route in
     way.1
 
 pub make_result-shapes_of-shapes-requires-clause-within : goal.make_result-shapes_of-shapes-requires-clause-within
 make_result-shapes_of-shapes-requires-clause-within g t c =
-    let way = subst (IsWayOf (op_of c.args.task.now.plan c.args.task.now.op)) c.in-View.is c.way_of.ensures.way in
-    (of_pull c.args.task.now.plan c.args.task.now.op (op_of c.args.task.now.plan c.args.task.now.op) c.args.task.now.number c.in-View.pull.now c.in-View.ins.now (fit_of c.args.task.now.plan c.way_of.ensures.sound c.args.task.now.op c.args.task.now.operation) way.0).reads
+    let way = subst (IsRouteOf (op_of c.args.task.now.plan c.args.task.now.op)) c.in-View.is c.route_of.ensures.route in
+    (of_pull c.args.task.now.plan c.args.task.now.op (op_of c.args.task.now.plan c.args.task.now.op) c.args.task.now.number c.in-View.pull.now c.in-View.ins.now (fit_of c.args.task.now.plan c.route_of.ensures.sound c.args.task.now.op c.args.task.now.operation) way.0).reads
 
 pub make_result-pull_result-requires-clause-job : goal.make_result-pull_result-requires-clause-job
 make_result-pull_result-requires-clause-job g t c =
-    let way = subst (IsWayOf (op_of c.args.task.now.plan c.args.task.now.op)) c.in-View.is c.way_of.ensures.way in
-    job_is_view _ c.way_of.ensures.sound way.0 way.1 (search rules)
+    let way = subst (IsRouteOf (op_of c.args.task.now.plan c.args.task.now.op)) c.in-View.is c.route_of.ensures.route in
+    job_is_view _ c.route_of.ensures.sound way.0 way.1 (search rules)
 
 pub make_result-pull_result-requires-clause-room : goal.make_result-pull_result-requires-clause-room
 make_result-pull_result-requires-clause-room g t c =
@@ -103,16 +103,16 @@ make_result-overflow_sub-before g t c =
 
 pub make_result-returns-in-View-clause-made : goal.make_result-returns-in-View-clause-made
 make_result-returns-in-View-clause-made g t c held still =
-    let way = subst (IsWayOf (op_of c.args.task.now.plan c.args.task.now.op)) c.in-View.is c.way_of.ensures.way in
-    let view = (of_pull c.args.task.now.plan c.args.task.now.op (op_of c.args.task.now.plan c.args.task.now.op) c.args.task.now.number c.in-View.pull.now c.in-View.ins.now (fit_of c.args.task.now.plan c.way_of.ensures.sound c.args.task.now.op c.args.task.now.operation) way.0) in
+    let way = subst (IsRouteOf (op_of c.args.task.now.plan c.args.task.now.op)) c.in-View.is c.route_of.ensures.route in
+    let view = (of_pull c.args.task.now.plan c.args.task.now.op (op_of c.args.task.now.plan c.args.task.now.op) c.args.task.now.number c.in-View.pull.now c.in-View.ins.now (fit_of c.args.task.now.plan c.route_of.ensures.sound c.args.task.now.op c.args.task.now.operation) way.0) in
     on_ok_then c.pull_result.result
-    (λ made. alike_made c.args.task.now c.way_of.ensures.sound held (g.C.Chunks.shown c.args.access.now) _ _ view.whole view.stores still made)
+    (λ made. alike_made c.args.task.now c.route_of.ensures.sound held (g.C.Chunks.shown c.args.access.now) _ _ view.whole view.stores still made)
     (c.pull_result.ensures.values still.now (still.told, still.steady))
 
 pub make_result-returns-in-View-clause-elements : goal.make_result-returns-in-View-clause-elements
 make_result-returns-in-View-clause-elements g t c =
-    let way = subst (IsWayOf (op_of c.args.task.now.plan c.args.task.now.op)) c.in-View.is c.way_of.ensures.way in
-    let view = (of_pull c.args.task.now.plan c.args.task.now.op (op_of c.args.task.now.plan c.args.task.now.op) c.args.task.now.number c.in-View.pull.now c.in-View.ins.now (fit_of c.args.task.now.plan c.way_of.ensures.sound c.args.task.now.op c.args.task.now.operation) way.0) in
+    let way = subst (IsRouteOf (op_of c.args.task.now.plan c.args.task.now.op)) c.in-View.is c.route_of.ensures.route in
+    let view = (of_pull c.args.task.now.plan c.args.task.now.op (op_of c.args.task.now.plan c.args.task.now.op) c.args.task.now.number c.in-View.pull.now c.in-View.ins.now (fit_of c.args.task.now.plan c.route_of.ensures.sound c.args.task.now.op c.args.task.now.operation) way.0) in
     on_ok_then c.pull_result.result
     (λ elements. record { output = elements; values = λ array is. absurd (none_stored array (sym view.stores ∙ is)) })
     c.pull_result.ensures.elements
@@ -126,20 +126,20 @@ make_result-returns-in-View-clause-called g t c sure = c.pull_result.ensures.cal
 pub make_result-returns-in-Copying-clause-made : goal.make_result-returns-in-Copying-clause-made
 make_result-returns-in-Copying-clause-made g t c held still =
     let task = c.args.task.now in
-    let copy = of_copy c.args.task.now.plan c.args.task.now.op (op_of c.args.task.now.plan c.args.task.now.op) c.args.task.now.number (fit_of c.args.task.now.plan c.way_of.ensures.sound c.args.task.now.op c.args.task.now.operation) (subst (IsWayOf (op_of c.args.task.now.plan c.args.task.now.op)) c.in-Copying.is c.way_of.ensures.way) in
+    let copy = of_copy c.args.task.now.plan c.args.task.now.op (op_of c.args.task.now.plan c.args.task.now.op) c.args.task.now.number (fit_of c.args.task.now.plan c.route_of.ensures.sound c.args.task.now.op c.args.task.now.operation) (subst (IsRouteOf (op_of c.args.task.now.plan c.args.task.now.op)) c.in-Copying.is c.route_of.ensures.route) in
     let made = c.result_bytes.ensures.bytes in
     let most = c.requires.room in
     let back = c.split_at_mut-scratch.ensures.back_len in
     let long = c.copy_region.auto.output in
     let tail = last_part c.copy_region.new.scratch c.copy_region.new.output (made_bytes c.args.task.now) (omega (arith, made, most, back, long)) in
     on_ok_then c.copy_region.result
-    (λ made. alike_made c.args.task.now c.way_of.ensures.sound held (g.C.Chunks.shown c.args.access.now) _ _ copy.whole copy.stores still (subst (HasMade task _) (sym tail) made))
+    (λ made. alike_made c.args.task.now c.route_of.ensures.sound held (g.C.Chunks.shown c.args.access.now) _ _ copy.whole copy.stores still (subst (HasMade task _) (sym tail) made))
     (c.copy_region.ensures.values still.now (still.told, still.steady))
 
 pub make_result-returns-in-Copying-clause-elements : goal.make_result-returns-in-Copying-clause-elements
 make_result-returns-in-Copying-clause-elements g t c =
     let task = c.args.task.now in
-    let copy = of_copy c.args.task.now.plan c.args.task.now.op (op_of c.args.task.now.plan c.args.task.now.op) c.args.task.now.number (fit_of c.args.task.now.plan c.way_of.ensures.sound c.args.task.now.op c.args.task.now.operation) (subst (IsWayOf (op_of c.args.task.now.plan c.args.task.now.op)) c.in-Copying.is c.way_of.ensures.way) in
+    let copy = of_copy c.args.task.now.plan c.args.task.now.op (op_of c.args.task.now.plan c.args.task.now.op) c.args.task.now.number (fit_of c.args.task.now.plan c.route_of.ensures.sound c.args.task.now.op c.args.task.now.operation) (subst (IsRouteOf (op_of c.args.task.now.plan c.args.task.now.op)) c.in-Copying.is c.route_of.ensures.route) in
     let made = c.result_bytes.ensures.bytes in
     let most = c.requires.room in
     let back = c.split_at_mut-scratch.ensures.back_len in

@@ -1,15 +1,15 @@
-//! The way in which a task comes by the elements that it makes: asked of the kind of its operation
-//! here alone.
+//! The route by which a task comes by the elements that it makes. The kind of its operation is asked
+//! here, and in `compute`.
 ghost use Rattle.cu_op.specs.Sound.{Sound};
 ghost use Rattle.cu_op.specs.TaskView.{task_op};
-ghost use Rattle.cu_task.specs.Ways.{IsWayOf};
+ghost use Rattle.cu_task.specs.Routes.{IsRouteOf};
 
 use cu_op::{Op, PlanTask};
 use cu_origin::Pull;
 
-/// A way in which a task comes by the elements that it makes.
+/// A route by which a task comes by the elements that it makes.
 #[derive(Clone, Copy)]
-pub(crate) enum Way<'a> {
+pub(crate) enum Route<'a> {
     /// From where each element comes is asked of a view.
     View {
         /// The view.
@@ -23,17 +23,17 @@ pub(crate) enum Way<'a> {
     Computing,
 }
 
-/// The way in which a task comes by the elements that it makes.
-pub(crate) fn way_of<'a>(task: &PlanTask<'a>) -> Way<'a>
-    ensures way { IsWayOf (task_op task.now) result }
+/// The route by which a task comes by the elements that it makes.
+pub(crate) fn route_of<'a>(task: &PlanTask<'a>) -> Route<'a>
+    ensures route { IsRouteOf (task_op task.now) result }
     ensures sound { Sound task.now.plan }
 {
     match task.operation() {
-        Op::Pull { pull, ins, .. } => Way::View {
+        Op::Pull { pull, ins, .. } => Route::View {
             pull,
             ins: ins.as_slice(),
         },
-        Op::Copy { .. } => Way::Copying,
-        _ => Way::Computing,
+        Op::Copy { .. } => Route::Copying,
+        _ => Route::Computing,
     }
 }
