@@ -138,7 +138,3 @@ module _ (size : ℕ) (p q : Axis) (start : Start) (source : List ℕ) (target s
           (λ i j bi bj. went_out.copied (i ∷ j ∷ []) (bi, (bj, tt)) ∙ ap (in_order e) (cell i j bi bj));
       others = λ n off. went_out.others n (on_two p.count q.count (λ (x : List ℕ). written_place axes_out (starts_at 0 start.to) x ≡ n → ⊥) (λ i j bi bj. off (i ∷ j ∷ []) (bi, (bj, tt))));
     }
-
--- a buffer that is as long as a tile
-pub can_room : (size : ℕ) (axes : List Axis) (start : Start) (source : List ℕ) (n m : ℕ) → n ≡ m → CanCopy size axes start source m → CanCopy size axes start source n
-can_room size axes start source n m e can = subst (λ (k : ℕ). CanCopy size axes start source k) (sym e) can

@@ -24,7 +24,7 @@ const SIDE: u64 = 64;
 /// The most elements of a stripe of tiles in a row of the target.
 const STRIPE: u64 = 256;
 
-/// The most bytes of a column of a tile, which is a part of a row of the target.
+/// The most bytes of a column of a tile, or of a part of one: they lie in a row of the target.
 const COLUMN_BYTES: u64 = 256;
 
 /// The bytes of a tile, which is a part of the first cache.
@@ -36,10 +36,10 @@ const LARGE_COLUMN_BYTES: u64 = 4096;
 /// The bytes of a tile of a large plane, which is a part of the second cache.
 const LARGE_TILE_BYTES: usize = 262144;
 
-/// A plane is large from so many rows on, whose columns are as long as a tile can have.
+/// The fewest rows of a large plane. Each is at least as long as a column of its tiles.
 const LARGE_ROWS: u64 = 512;
 
-/// So many rows of the target are written at a time.
+/// So many rows of the target are written at a time: not more than a processor prefetches.
 const GROUP: u64 = 16;
 
 /// A block of so many rows and columns that are neighbours is copied without a tile.
@@ -70,7 +70,7 @@ impl Held {
     }
 }
 
-/// A tile of a large plane, which goes the same way.
+/// A tile of a large plane, into which rows come and from which rows go out likewise.
 #[derive(Drop)]
 struct LargeHeld {
     /// The rows of the source, each of as many elements as a tile can have.
@@ -160,8 +160,8 @@ fn is_near(size: u64, plane: Plane) -> bool {
         && far(plane.outer.to).saturating_mul(size) <= NEAR
 }
 
-/// Whether the plane is so large that its tiles are too, of elements that are moved as fast as the
-/// caches take them.
+/// Whether the plane is so large that its tiles are too. That is for elements of 4 and 8 bytes,
+/// which are moved so fast that the caches decide.
 fn is_large(size: u64, plane: Plane) -> bool {
     size >= 4
         && plane.outer.count >= LARGE_ROWS
@@ -357,8 +357,8 @@ fn copy_tiles<const N: usize>(
     }
 }
 
-/// A large turned plane: bands of its rows, each by tiles as long as the band is wide. Then few rows
-/// of the target are written at a time, and each for long, as the processor foresees it.
+/// A large turned plane: bands of its rows, each by tiles as wide as the band. So long parts of few
+/// rows of the target are written at a time, and the processor prefetches them.
 #[inline(never)]
 fn copy_bands<const N: usize>(order: Endian, plane: Plane, source: &[u8], target: &mut [u8])
     requires can { CanCopy N (plane_axes plane) plane.start source.now (length target.old) }
@@ -409,7 +409,7 @@ fn large_column_length(size: u64) -> u64
     LARGE_COLUMN_BYTES / size
 }
 
-/// How many elements of `size` bytes a column of a tile has at most.
+/// How many elements of `size` bytes a column of a tile has at most, or a part of a longer one.
 #[inline(always)]
 fn column_length(size: u64) -> u64
     requires { IsSize size }
@@ -419,9 +419,9 @@ fn column_length(size: u64) -> u64
     SIDE.min(COLUMN_BYTES / size)
 }
 
-/// One tile: rows of the source come in whole, and from a buffer within the first cache the
-/// elements go out by rows of the target. Columns of the source itself fall into few places of the
-/// cache where its rows are as long as a power of two.
+/// One tile: rows of the source come in whole, and from a buffer within the first cache, or the
+/// second, the elements go out by rows of the target. Columns of the source itself fall into few
+/// places of the cache where its rows are as long as a power of two.
 fn copy_tile<const N: usize>(
     order: Endian,
     plane: Plane,
@@ -473,7 +473,7 @@ fn copy_tile<const N: usize>(
     copy_groups::<N>(order, out, rows, target);
 }
 
-/// The columns of a tile, so many at a time as are foreseen.
+/// The columns of a tile, `GROUP` of them at a time.
 #[inline(always)]
 fn copy_groups<const N: usize>(order: Endian, plane: Plane, source: &[u8], target: &mut [u8])
     requires can { CanCopy N (plane_axes plane) plane.start source.now (length target.old) }
@@ -489,7 +489,7 @@ fn copy_groups<const N: usize>(order: Endian, plane: Plane, source: &[u8], targe
     }
 }
 
-/// A group of columns, by parts that are known in their loop.
+/// A group of columns, by parts whose length is known in the loop.
 #[inline(always)]
 fn copy_group<const N: usize>(order: Endian, plane: Plane, source: &[u8], target: &mut [u8])
     requires can { CanCopy N (plane_axes plane) plane.start source.now (length target.old) }
@@ -506,7 +506,7 @@ fn copy_group<const N: usize>(order: Endian, plane: Plane, source: &[u8], target
     }
 }
 
-/// The columns of a tile, most of which have as many elements as a tile can have.
+/// Columns of a tile or parts of them, most of which have `column_length` elements.
 #[inline(always)]
 fn copy_tile_columns<const N: usize>(order: Endian, plane: Plane, source: &[u8], target: &mut [u8])
     requires can { CanCopy N (plane_axes plane) plane.start source.now (length target.old) }

@@ -11,9 +11,9 @@ use Rattle.cu_grid.specs.Counts.{IsRegion, IsWithin}
 use Rattle.cu_grid.specs.Grid.{RegularGrid, IsGrid, IsCoordinate, index_at_place}
 use Rattle.cu_grid.proofs.Covers.{bounds_of}
 use Rattle.cu_grid.proofs.Regions.{coordinate-length}
-use Rattle.cu_codec.specs.Parts.{part, part_at, place_within, HasFill, IsLaid, IsOneChunk}
+use Rattle.cu_codec.specs.Parts.{part, part_at, place_within, HasFill, IsLaid, IsWholeChunk}
 
-pub one_chunk_at : (chunk coord lo hi : List ℕ) (k : ℕ) → length coord ≡ length chunk → k < length chunk → IsOneChunk chunk coord lo hi
+pub one_chunk_at : (chunk coord lo hi : List ℕ) (k : ℕ) → length coord ≡ length chunk → k < length chunk → IsWholeChunk chunk coord lo hi
     → (get_or lo k 0 ≡ get_or coord k 0 * get_or chunk k 0) × (get_or hi k 0 ≡ get_or lo k 0 + get_or chunk k 0)
 one_chunk_at chunk coord lo hi k rank below one =
     let long = length-axis_by_axis (λ i c. i * c) coord chunk rank in
@@ -25,7 +25,7 @@ one_chunk_at chunk coord lo hi k rank below one =
 
 pub one_chunk_from : (chunk coord lo hi : List ℕ) → length coord ≡ length chunk → length lo ≡ length chunk → length hi ≡ length chunk
     → ((k : ℕ) → k < length chunk → (get_or lo k 0 ≡ get_or coord k 0 * get_or chunk k 0) × (get_or hi k 0 ≡ get_or lo k 0 + get_or chunk k 0))
-    → IsOneChunk chunk coord lo hi
+    → IsWholeChunk chunk coord lo hi
 one_chunk_from chunk coord lo hi rank lo_rank hi_rank axes =
     let first : lo ≡ products coord chunk = axis_by_axis_from (λ i c. i * c) lo coord chunk (lo_rank ∙ sym rank) rank (λ k b. (axes k (omega arith)).0) in
     let last : hi ≡ sums lo chunk = axis_by_axis_from (λ i j. i + j) hi lo chunk (hi_rank ∙ sym lo_rank) lo_rank (λ k b. (axes k (omega arith)).1) in
@@ -100,7 +100,7 @@ place_again (c ∷ chunk) (q ∷ coord) (x ∷ i) rank same =
     let first : q * c + x - q * c ≡ x = omega arith in
     cc
 
-module _ (g : RegularGrid) (coord lo hi : List ℕ) (ok : IsGrid g) (here : IsCoordinate g coord) (region : IsRegion g.shape lo hi) (one : IsOneChunk g.chunk coord lo hi) where
+module _ (g : RegularGrid) (coord lo hi : List ℕ) (ok : IsGrid g) (here : IsCoordinate g coord) (region : IsRegion g.shape lo hi) (one : IsWholeChunk g.chunk coord lo hi) where
   rank : length coord ≡ length g.chunk
   rank = coordinate-length g coord ok here ∙ sym ok.ranks
 

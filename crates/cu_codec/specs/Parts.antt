@@ -15,8 +15,8 @@ abbrev pub place_within : List ℕ → List ℕ → List ℕ → ℕ
 place_within lo hi idx = place_of (differences hi lo) (differences idx lo)
 
 -- the region is the chunk at this coordinate, whole
-abbrev pub IsOneChunk : List ℕ → List ℕ → List ℕ → List ℕ → Type 0
-IsOneChunk chunk coord lo hi = (lo ≡ products coord chunk) × (hi ≡ sums (products coord chunk) chunk)
+abbrev pub IsWholeChunk : List ℕ → List ℕ → List ℕ → List ℕ → Type 0
+IsWholeChunk chunk coord lo hi = (lo ≡ products coord chunk) × (hi ≡ sums (products coord chunk) chunk)
 
 -- a chunk of a grid, by its coordinate, and a region of the array: on each axis its first index, and one past its last
 pub record Part : Type 0 where

@@ -6,7 +6,7 @@ ghost use Rattle.cu_shape.specs.Index.{product, axis_by_axis, differences};
 ghost use Rattle.cu_grid.specs.Counts.{IsRegion, IsWithin};
 ghost use Rattle.cu_grid.specs.Grid.{IsCoordinate, IsInChunk};
 ghost use Rattle.cu_codec.specs.Box.{IsSharedBox};
-ghost use Rattle.cu_codec.specs.Parts.{part, part_at, HasFill, IsOneChunk, IsPartTaken, IsLaid};
+ghost use Rattle.cu_codec.specs.Parts.{part, part_at, HasFill, IsWholeChunk, IsPartTaken, IsLaid};
 
 use cu_box::{Placing, copy_box};
 use cu_grid::{Grid, Region};
@@ -90,7 +90,7 @@ fn fill_past_edge(grid: &Grid, t: Dtype, fill: i128, coord: &Dims, chunk: &mut [
 pub fn is_one_chunk(grid: &Grid, coord: &Dims, region: &Region) -> bool
     requires coordinate { IsCoordinate grid.now coord.now }
     requires region { IsRegion grid.now.shape region.now.lo region.now.hi }
-    ensures { IsTrue result ↔ IsOneChunk grid.now.chunk coord.now region.now.lo region.now.hi }
+    ensures { IsTrue result ↔ IsWholeChunk grid.now.chunk coord.now region.now.lo region.now.hi }
 {
     let chunk = grid.chunk();
     for axis in 0..chunk.rank() {

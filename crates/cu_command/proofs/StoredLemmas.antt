@@ -17,7 +17,7 @@ use Rattle.cu_v2.specs.Zarray.{zarray_layout}
 use Rattle.cu_zarr.specs.Key.{metadata_key_of, zarray_key_of}
 use Rattle.cu_zarr.specs.Layout.{ArrayLayout}
 use Rattle.cu_command.proofs.SeenLemmas.{stepped, gone_before}
-use Rattle.cu_command.specs.Stored.{IsArrayLayout, IsMetadata, IsZarrayOf, IsRefusedText, IsRefusedZarray, HoldsSuch, HoldsLayout, HoldsZarray, HoldsRefused, HoldsRefusedZarray, FindsLayout, IsFrontOf, HoldsFront, IsTextFault, IsTextRefusal, IsMetadataFault, IsZarrayFault, IsFindFault}
+use Rattle.cu_command.specs.Stored.{IsArrayLayout, IsMetadata, IsZarrayOf, IsRefusedText, IsRefusedZarray, HoldsSuch, HoldsLayout, HoldsZarray, HoldsRefused, HoldsRefusedZarray, FindsLayout, IsTextFront, HoldsFront, IsTextFault, IsTextRefusal, IsMetadataFault, IsZarrayFault, IsFindFault}
 use Rattle.cu_command.specs.declared.status.Status.{Status}
 use Rattle.cu_command.specs.declared.status.Status.TheVariants.{DepotFailed, BadMeta, NoArray, NoMemory}
 
@@ -43,7 +43,7 @@ long_front (Some held) key buf n (bytes, here, is_n, front) room long =
 
 -- A reader that refuses each text that is too long, for one reason, answers the same of a text and of its front.
 module _ {E : Type 0} (reader : List ℕ → Result ArrayLayout E) (fault : E) (refuses : (bytes : List ℕ) → 1048576 < length bytes → reader bytes ≡ Err fault) where
-  front_reads : (front text : List ℕ) (r : Result ArrayLayout E) → IsFrontOf front text → reader front ≡ r → reader text ≡ r
+  front_reads : (front text : List ℕ) (r : Result ArrayLayout E) → IsTextFront front text → reader front ≡ r → reader text ≡ r
   front_reads front text r (inl same) reads = ap reader same ∙ reads
   front_reads front text r (inr (long, longer)) reads = refuses text longer ∙ sym (refuses front long) ∙ reads
 
@@ -53,26 +53,26 @@ such_more (Some held) key P Q more (text, there, is) = (text, there, more text i
 
 holds_layout : (held : Option Contents) (key front : List ℕ) (l : Layout) → HoldsFront held key front → IsMetadata l front → HoldsLayout held key l
 holds_layout held key front l holds says =
-    such_more held key (IsFrontOf front) (IsMetadata l) (λ text is. record {
+    such_more held key (IsTextFront front) (IsMetadata l) (λ text is. record {
       grid = says.grid;
       reads = front_reads read_metadata too_long read_too_long front text (Ok (layout_view l)) is says.reads;
     }) holds
 
 holds_zarray : (held : Option Contents) (key front : List ℕ) (l : Layout) → HoldsFront held key front → IsZarrayOf l front → HoldsZarray held key l
 holds_zarray held key front l holds says =
-    such_more held key (IsFrontOf front) (IsZarrayOf l) (λ text is. record {
+    such_more held key (IsTextFront front) (IsZarrayOf l) (λ text is. record {
       grid = says.grid;
       reads = front_reads zarray_layout over_length zarray_too_long front text (Ok (layout_view l)) is says.reads;
     }) holds
 
 holds_refused : (held : Option Contents) (key front : List ℕ) (code : ℕ) → HoldsFront held key front → IsRefusedText front code → HoldsRefused held key code
 holds_refused held key front code holds (reason, refused, is_code) =
-    such_more held key (IsFrontOf front) (λ text. IsRefusedText text code)
+    such_more held key (IsTextFront front) (λ text. IsRefusedText text code)
     (λ text is. (reason, front_reads read_metadata too_long read_too_long front text (Err reason) is refused, is_code)) holds
 
 holds_refused_zarray : (held : Option Contents) (key front : List ℕ) (code : ℕ) → HoldsFront held key front → IsRefusedZarray front code → HoldsRefusedZarray held key code
 holds_refused_zarray held key front code holds (reason, refused, is_code) =
-    such_more held key (IsFrontOf front) (λ text. IsRefusedZarray text code)
+    such_more held key (IsTextFront front) (λ text. IsRefusedZarray text code)
     (λ text is. (reason, front_reads zarray_layout over_length zarray_too_long front text (Err reason) is refused, is_code)) holds
 
 -- ---- one key

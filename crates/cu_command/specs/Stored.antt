@@ -121,11 +121,11 @@ IsFindFault tries old new name status = ⊥
 -- ---- what the parts of reading rest on
 
 -- The text that the key holds has this front: it is the whole text, or both are longer than a text of metadata may be.
-abbrev pub IsFrontOf : List ℕ → List ℕ → Type 0
-IsFrontOf front text = (text ≡ front) ⊎ ((1048576 < length front) × (1048576 < length text))
+abbrev pub IsTextFront : List ℕ → List ℕ → Type 0
+IsTextFront front text = (text ≡ front) ⊎ ((1048576 < length front) × (1048576 < length text))
 
 abbrev pub HoldsFront : Option Contents → List ℕ → List ℕ → Type 0
-HoldsFront held key front = HoldsSuch held key (IsFrontOf front)
+HoldsFront held key front = HoldsSuch held key (IsTextFront front)
 
 -- why a text isn't read under this key
 abbrev pub IsTextFault : ℕ → Shown → Shown → List ℕ → List ℕ → Status → Type 0

@@ -7,7 +7,7 @@ use Rattle.cu_num.specs.declared.folds.FoldKind.{FoldKind}
 use Rattle.cu_fold.specs.declared.levels.Leaf.TheVariants.{Run, Row, Runs, Rows}
 use Rattle.cu_fold.specs.Levels.{chained, moved, sources, leaf_levels}
 use Rattle.cu_fold.specs.Taken.{TakesAll}
-use Rattle.cu_take.specs.Taken.{HasTaken, elements_at_places, column}
+use Rattle.cu_take.specs.Taken.{HasTaken, elements_at_places, column_places}
 use Rattle.cu_reduce.proofs.Ranges.{range_shift, map_ranges}
 use Rattle.cu_fold.proofs.Chains.{chained_single}
 
@@ -44,14 +44,14 @@ single_places f (suc n) =
     let more : n + 1 ≡ suc n = omega arith in
     ap (λ xs. xs ++ f n ∷ []) (single_places f n) ∙ sym (map-range_with_len_more f 0 n n at) ∙ ap (λ k. map f (range_with_len 0 k)) more
 
-row_places : (n width q : ℕ) → sources (leaf_levels (Rows n width)) q ≡ column 0 width n q
+row_places : (n width q : ℕ) → sources (leaf_levels (Rows n width)) q ≡ column_places 0 width n q
 row_places n width q =
     single_places (λ i. i * (width * 1) + (q / 1 * 1 + 0)) n
     ∙ map_ranges (λ i. i * (width * 1) + (q / 1 * 1 + 0)) (λ k. 0 + k * width + q) 0 0 n
     (λ k less. let one : q / 1 ≡ q = omega arith in omega (arith, one))
 
 pub rows_results : (kind : FoldKind) (from acc : Dtype) (n width : ℕ) (input old new : List ℕ)
-    → ((j : ℕ) → j < width → HasTaken kind acc old new (0 + j) (elements_at_places from input (column 0 width n j)))
+    → ((j : ℕ) → j < width → HasTaken kind acc old new (0 + j) (elements_at_places from input (column_places 0 width n j)))
     → TakesAll (record { kind = kind; from = from; acc = acc }) (leaf_levels (Rows n width)) input old new
 rows_results kind from acc n width input old new h q less =
     let at : 0 + q ≡ q = omega arith in

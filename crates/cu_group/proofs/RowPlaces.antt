@@ -11,7 +11,7 @@ use Rattle.cu_num.specs.declared.layout.Endian.TheVariants.{Little}
 use Rattle.cu_num.specs.declared.folds.FoldKind.{FoldKind}
 use Rattle.cu_reduce.proofs.Ranges.{range_append, map_ranges, map-append}
 use Rattle.cu_reduce.proofs.Regions.{append_none}
-use Rattle.cu_take.specs.Taken.{HasTaken, IsOutside, elements_at_places, column}
+use Rattle.cu_take.specs.Taken.{HasTaken, IsOutside, elements_at_places, column_places}
 use Rattle.cu_take.proofs.Taking.{takes_more}
 use Rattle.cu_reduce.specs.Labels.{is_label, members}
 use Rattle.cu_group.specs.Regions.{row_sources}
@@ -53,7 +53,7 @@ sources_more label inner first k n q j own h =
 
 run_column : (inner first k n j : ℕ)
     → map (λ i. (first + i) * inner + j) (range_with_len k n)
-    ≡ column ((first + k) * inner) inner n j
+    ≡ column_places ((first + k) * inner) inner n j
 run_column inner first k n j =
     map_ranges (λ i. (first + i) * inner + j) (λ i. (first + k) * inner + i * inner + j) k 0 n
     (λ i b. let e : (first + (k + i)) * inner + j
@@ -66,14 +66,14 @@ pub takes_run : (kind : FoldKind) (from acc : Dtype) (input old mid new : List �
     → HasTaken kind acc old mid at (elements_at_places from input
     (row_sources label inner first k q j))
     → HasTaken kind acc mid new at (elements_at_places from input
-    (column ((first + k) * inner) inner n j))
+    (column_places ((first + k) * inner) inner n j))
     → HasTaken kind acc old new at (elements_at_places from input
     (row_sources label inner first end q j))
 unfolding HasRun
 takes_run kind from acc input old mid new label inner first k n end q j at e same h g =
     let f : ℕ → ℤ = λ p. element_at Little from input p in
     let own = row_sources label inner first k q j in
-    let more = column ((first + k) * inner) inner n j in
+    let more = column_places ((first + k) * inner) inner n j in
     let run : HasRun label q true k (k + n) = λ i l b. same i l (omega arith) in
     let all : row_sources label inner first end q j ≡ own ++ more =
     ap (λ m. row_sources label inner first m q j) (sym e)

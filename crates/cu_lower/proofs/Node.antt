@@ -31,7 +31,7 @@ use Rattle.cu_lower_reduce.specs.Partials.{IsSetting}
 use Rattle.cu_lower_reduce.specs.Steps.{all_made, last_made, HasInfo, HaveInfos, AreSteps, SolveSteps}
 use Rattle.cu_lower_reduce.specs.declared.step.Step.{Step}
 use Rattle.cu_lower.specs.Inputs.{input_place}
-use Rattle.cu_lower.specs.Parts.{copying, is_given, setting, source_places, steps_of, CanCopy, IsFitting}
+use Rattle.cu_lower.specs.Parts.{copying, is_given, setting, source_places, steps_of, CanMakeCopies, IsFitting}
 use Rattle.cu_lower.specs.declared.options.Options.{Options}
 use Rattle.cu_lower.proofs.Applied.{Told}
 use Rattle.cu_lower.proofs.Arguments.{Each}
@@ -114,7 +114,7 @@ pub record Laws (f : Form) : Type 0 where
       → IsFitting infos options k f
   -- and what the copies of its operands do
   pub copies : (infos : List NodeInfo) (options : Options) (k : ℕ) → IsFitting infos options k f
-      → (first : ℕ) → CanCopy infos options k f first
+      → (first : ℕ) → CanMakeCopies infos options k f first
   -- what its steps come to
   pub own : HaveLaws → (p : Site) (inputs : List InputInfo) (k : ℕ) → IsAccepted inputs p.infos k f → is_given p.e k f ≡ false
       → IsFitting p.infos p.options k f → HasRoom p.options p.first
@@ -129,7 +129,7 @@ pub record Laws (f : Form) : Type 0 where
 
 -- a form without operands copies none
 pub no_copies : (infos : List NodeInfo) (options : Options) (k : ℕ) (f : Form) → operands_of infos k f ≡ []
-    → (first : ℕ) → CanCopy infos options k f first
+    → (first : ℕ) → CanMakeCopies infos options k f first
 no_copies infos options k f none first = record {
   rechunks = subst (All IsRechunk) (sym none) (All-nil IsRechunk);
   operands = subst (AreOperands (copying options first)) (sym none) (record { staged = All-nil (IsStaged (copying options first)) });

@@ -5,7 +5,7 @@ use Rattle.cu_form.specs.declared.form.Form.{Form}
 use Rattle.cu_node.specs.declared.info.NodeInfo.{NodeInfo}
 use Rattle.cu_need.specs.Need.{own_need}
 use Rattle.cu_need.specs.View.{is_view}
-use Rattle.cu_lower.specs.Parts.{only_step, steps_of, view_op, CanCopy, CanGrow, IsFitting}
+use Rattle.cu_lower.specs.Parts.{only_step, steps_of, view_op, CanMakeCopies, CanGrow, IsFitting}
 use Rattle.cu_lower.specs.declared.options.Options.{Options}
 use Rattle.cu_lower.proofs.Node.{Laws}
 use Rattle.cu_lower.proofs.Node.Function.{function_laws}
@@ -61,5 +61,5 @@ laws_of f takes = view_laws f (viewed f refl)
 pub fitting_as : {f g : Form} (infos : List NodeInfo) (options : Options) (k : ℕ) → f ≡ g → CanGrow infos options k f → IsFitting infos options k g
 fitting_as infos options k is grow = subst (IsFitting infos options k) is grow.fitting
 
-pub can_copy : (infos : List NodeInfo) (options : Options) (k : ℕ) (f : Form) (first : ℕ) → CanGrow infos options k f → CanCopy infos options k f first
+pub can_copy : (infos : List NodeInfo) (options : Options) (k : ℕ) (f : Form) (first : ℕ) → CanGrow infos options k f → CanMakeCopies infos options k f first
 can_copy infos options k f first grow = (laws_of f grow.written.takes).copies infos options k grow.fitting first

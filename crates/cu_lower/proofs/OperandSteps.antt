@@ -11,7 +11,7 @@ use Rattle.cu_op.specs.declared.operation.Op.{Op}
 use Rattle.cu_form.specs.declared.form.Form.{Form}
 use Rattle.cu_node.specs.Info.{IsInfo, info_at}
 use Rattle.cu_node.specs.declared.info.NodeInfo.{NodeInfo}
-use Rattle.cu_need.specs.Counts.{node_cells, own_cells, own_tasks, node_tasks}
+use Rattle.cu_need.specs.Counts.{node_cells, form_cells, form_tasks, node_tasks}
 use Rattle.cu_need.specs.Need.{own_need}
 use Rattle.cu_need.specs.Operands.{copies_of, operands_of}
 use Rattle.cu_need.specs.Outline.{outline_of}
@@ -26,7 +26,7 @@ use Rattle.cu_lower_reduce.specs.Steps.{all_made, grid_of, made_infos, step_task
 use Rattle.cu_lower_reduce.specs.declared.copy.CopySetting.{CopySetting}
 use Rattle.cu_lower_reduce.specs.declared.step.Step.{Step}
 use Rattle.cu_lower_reduce.proofs.Operands.{made_append}
-use Rattle.cu_lower.specs.Parts.{behind_copies, copying, is_computed, only_step, setting, CanCopy, Make}
+use Rattle.cu_lower.specs.Parts.{behind_copies, copying, is_computed, only_step, setting, CanMakeCopies, Make}
 use Rattle.cu_lower.specs.declared.options.Options.{Options}
 use Rattle.cu_lower.proofs.OutlinedSteps.{outlined_attain, outlined_few, outlined_made, outlined_needs, outlined_others, outlined_sum, Attain}
 use Rattle.cu_lower.proofs.StepLaws.{HaveLaws}
@@ -149,7 +149,7 @@ module _ (infos : List NodeInfo) (options : Options) (out k : ℕ) (f : Form) wh
 
   -- of a node that is a copy alone
   pub copies_own : (laws : HaveLaws) (first source : ℕ) (r : Rechunk) → IsStaged (copying options first) r → rechunked r ≡ info_at infos k → copies_of infos out k f ≡ r ∷ []
-      → own_tasks options.split_every infos k f ≡ 0 → own_cells options.split_every infos k f ≡ 0 → is_computed f ≡ false → AreOwn infos options out k f (copy_steps (copying options first) source r)
+      → form_tasks options.split_every infos k f ≡ 0 → form_cells options.split_every infos k f ≡ 0 → is_computed f ≡ false → AreOwn infos options out k f (copy_steps (copying options first) source r)
   copies_own laws first source r staged made one tasks cells alone =
       let s = copying options first in
       let c = laws.rechunks.sizes (copying options first) source r staged in
@@ -181,7 +181,7 @@ copies_few laws s ins rs can long three =
     omega (arith, few, some, most, three)
 
 pub operands_own : (laws : HaveLaws) (infos : List NodeInfo) (options : Options) (out k : ℕ) (f : Form) (ins : List ℕ) (first : ℕ) (own : List ℕ → ℕ → List Step)
-    → CanCopy infos options k f first → length ins ≡ length (operands_of infos k f) → copies_of infos out k f ≡ filter is_misaligned (operands_of infos k f)
+    → CanMakeCopies infos options k f first → length ins ≡ length (operands_of infos k f) → copies_of infos out k f ≡ filter is_misaligned (operands_of infos k f)
     → ComeTo options.reserved (outline_of options.split_every infos k f) (info_at infos k)
     (own (aligned_places (copying options first) ins (operands_of infos k f)) (first + length (all_made (aligned_steps (copying options first) ins (operands_of infos k f)))))
     → AreOwn infos options out k f (behind_copies (copying options first) ins (operands_of infos k f) own)

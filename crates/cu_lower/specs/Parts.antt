@@ -310,7 +310,7 @@ pub record IsWritten (k : ℕ) (form : Form) : Type 0 where
   pub short : HasShortIndex form
 
 -- what the copies of a node take for granted
-pub record CanCopy (infos : List NodeInfo) (options : Options) (k : ℕ) (form : Form) (first : ℕ) : Type 0 where
+pub record CanMakeCopies (infos : List NodeInfo) (options : Options) (k : ℕ) (form : Form) (first : ℕ) : Type 0 where
   pub rechunks : All IsRechunk (operands_of infos k form)
   pub operands : AreOperands (copying options first) (operands_of infos k form)
   pub few : length (operands_of infos k form) ≤ 3
@@ -318,14 +318,14 @@ pub record CanCopy (infos : List NodeInfo) (options : Options) (k : ℕ) (form :
 -- and beside it, by the form: a function's arguments have a type together; and what is reduced, sought, multiplied, summed or grouped is
 abbrev pub IsFitting : List NodeInfo → Options → ℕ → Form → Type 0
 IsFitting infos options k (Form.Elementwise op args) =
-    IsOk (shared_type op (map (argument_of infos) args)) × ((first : ℕ) → CanCopy infos options k (Form.Elementwise op args) first)
+    IsOk (shared_type op (map (argument_of infos) args)) × ((first : ℕ) → CanMakeCopies infos options k (Form.Elementwise op args) first)
 IsFitting infos options k (Form.Reduce kind args axes keepdims) = (ins : List ℕ) → IsReduction (reduction_of infos k kind args axes ins)
 IsFitting infos options k (Form.ArgPlace least args axis keepdims) = (ins : List ℕ) → IsSearch (search_of infos k least args axis ins)
 IsFitting infos options k (Form.Matmul args) =
-    ((ins : List ℕ) → IsProduct (product_of infos k args ins)) × ((first : ℕ) → CanCopy infos options k (Form.Matmul args) first)
+    ((ins : List ℕ) → IsProduct (product_of infos k args ins)) × ((first : ℕ) → CanMakeCopies infos options k (Form.Matmul args) first)
 IsFitting infos options k (Form.CumulativeSum args axis) = (ins : List ℕ) → IsCumulative (cumulative_of infos k args axis ins)
 IsFitting infos options k (Form.GroupBy least args axis groups) =
-    ((ins : List ℕ) → IsGrouped (grouped_over (grouped_of infos k least args axis groups) ins)) × ((first : ℕ) → CanCopy infos options k (Form.GroupBy least args axis groups) first)
+    ((ins : List ℕ) → IsGrouped (grouped_over (grouped_of infos k least args axis groups) ins)) × ((first : ℕ) → CanMakeCopies infos options k (Form.GroupBy least args axis groups) first)
 IsFitting infos options k (Form.Rechunk args chunk) = (first : ℕ) → IsStaged (copying options first) (in_chunks (array_of infos args 0) (info_at infos k).chunk)
 IsFitting infos options k (Form.Input name) = (first : ℕ) → IsStaged (copying options first) (in_chunks (info_at infos k) (info_at infos k).chunk)
 IsFitting infos options k form = Unit {0}

@@ -20,7 +20,7 @@ use Rattle.cu_op.specs.Value.{rule}
 use Rattle.cu_op.specs.declared.layout.ArrayInfo.{ArrayInfo}
 use Rattle.cu_op.specs.declared.operation.Op.TheVariants.{Fold, Merge}
 use Rattle.cu_node.specs.declared.info.NodeInfo.{NodeInfo}
-use Rattle.cu_tree.specs.Partials.{first_partial, reduction_rounds, merged}
+use Rattle.cu_tree.specs.Partials.{first_partial, reduction_rounds, merged, written_before}
 use Rattle.cu_tree.specs.declared.round.Round.{Round}
 use Rattle.cu_lower_reduce.specs.Partials.{IsSetting}
 use Rattle.cu_lower_reduce.specs.Reductions.{fold_head, merge_head, merges, folded, reduction_steps, whole_groups, reduced_indices, IsReduction}
@@ -105,21 +105,21 @@ merges_value arrays at s kind t axes base made f source i r [] c w turn h k solv
     let all : group_counts (merge_groups r.axis s.split_every (grid_of i)) i.dims ≡ group_counts (whole_groups axes base.dims) base.dims = ap (λ (x : RegularGrid). x.shape) counts ∙ whole in
     let q = index_at (group_counts (whole_groups axes base.dims) base.dims) (place_of made.dims idx) in
     let inside = squeezed_inside axes base made idx c.result b in
-    solve (merge_head s kind made source i r []) (source + 1) idx (contains_head (merge_head s kind made source i r []) []) (contains_first (source + 1) [])
+    solve (merge_head s kind made source r (written_before [] (merged r i) made)) (source + 1) idx (contains_head (merge_head s kind made source r (written_before [] (merged r i) made)) []) (contains_first (source + 1) [])
     ∙ merge_value arrays at kind r.axis s.split_every source (source + 1) i made idx h k.0
     ∙ ap (λ (cs : List ℕ). reduced_to kind made.dtype (map (at source) (group_indices (merge_groups r.axis s.split_every (grid_of i)) i.dims (index_at cs (place_of made.dims idx))))) all
     ∙ end_carried kind made.dtype axes base.dims (merged r i).dims f _ whole (after_round kind t made.dtype s axes base made i f (at source) r [] w c.several turn v)
     (index_at (group_counts (whole_groups axes base.dims) base.dims) (place_of made.dims idx)) (subst (λ (cs : List ℕ). IsInside cs (index_at (group_counts (whole_groups axes base.dims) base.dims) (place_of made.dims idx))) (sym whole) inside)
 merges_value arrays at s kind t axes base made f source i r (p ∷ rs) c w turn h k solve v idx b =
     merges_value arrays at s kind t axes base made f (source + 1) (merged r i) p rs c w (next_turn s axes base made i r (p ∷ rs) c.several turn) k.0 k.1
-    (solve_behind arrays at (merge_head s kind made source i r (p ∷ rs)) (merges s kind made (source + 1) (merged r i) (p ∷ rs)) solve)
+    (solve_behind arrays at (merge_head s kind made source r (written_before (p ∷ rs) (merged r i) made)) (merges s kind made (source + 1) (merged r i) (p ∷ rs)) solve)
     (same_value kind made.dtype axes base.dims (merged r i).dims f _ (at (source + 1)) here (after_round kind t made.dtype s axes base made i f (at source) r (p ∷ rs) w c.several turn v))
     idx b
   where
     here : (q : List ℕ) → IsInside (merged r i).dims q → at (source + 1) q ≡ reduced_to kind made.dtype (map (at source) (group_indices (merge_groups r.axis s.split_every (grid_of i)) i.dims q))
     here q m =
         let counts : group_counts (merge_groups r.axis s.split_every (grid_of i)) i.dims ≡ (merged r i).dims = ap (λ (x : RegularGrid). x.shape) (merged_grid axes s.split_every base i r c.several turn.stands turn.rule.0) in
-        solve (merge_head s kind made source i r (p ∷ rs)) (source + 1) q (contains_head (merge_head s kind made source i r (p ∷ rs)) (merges s kind made (source + 1) (merged r i) (p ∷ rs))) (contains_first (source + 1) [])
+        solve (merge_head s kind made source r (written_before (p ∷ rs) (merged r i) made)) (source + 1) q (contains_head (merge_head s kind made source r (written_before (p ∷ rs) (merged r i) made)) (merges s kind made (source + 1) (merged r i) (p ∷ rs))) (contains_first (source + 1) [])
         ∙ merge_value arrays at kind r.axis s.split_every source (source + 1) i (merged r i) q h k.0
         ∙ ap (λ (d : Dtype). reduced_to kind d (map (at source) (group_indices (merge_groups r.axis s.split_every (grid_of i)) i.dims (index_at (group_counts (merge_groups r.axis s.split_every (grid_of i)) i.dims) (place_of (merged r i).dims q))))) turn.dtype
         ∙ ap (λ (cs : List ℕ). reduced_to kind made.dtype (map (at source) (group_indices (merge_groups r.axis s.split_every (grid_of i)) i.dims (index_at cs (place_of (merged r i).dims q))))) counts

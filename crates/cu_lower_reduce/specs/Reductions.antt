@@ -17,12 +17,12 @@ use Rattle.cu_lower_reduce.specs.declared.reduction.Reduction.{Reduction}
 use Rattle.cu_lower_reduce.specs.declared.step.Setting.{Setting}
 use Rattle.cu_lower_reduce.specs.declared.step.Step.{Step}
 
--- the merge of a round over array number `source`, which has these partial results, where rounds follow
-abbrev pub merge_head : Setting → FoldKind → NodeInfo → ℕ → NodeInfo → Round → List Round → Step
-merge_head s kind made source partial r rs = record {
+-- the merge of a round over array number `source`, which makes such an array, for a node that is made so
+abbrev pub merge_head : Setting → FoldKind → NodeInfo → ℕ → Round → NodeInfo → Step
+merge_head s kind made source r next = record {
   op = Merge kind r.axis s.split_every source (source + 1);
   values = None;
-  made = written_before rs (merged r partial) made;
+  made = next;
   need = merge_need s.reserved s.split_every (chunk_bytes made);
 }
 
@@ -31,7 +31,8 @@ merge_head s kind made source partial r rs = record {
 abbrev pub merges : Setting → FoldKind → NodeInfo → ℕ → NodeInfo → List Round → List Step
 merges s kind made source partial [] = []
 merges s kind made source partial (r ∷ rs) =
-    merge_head s kind made source partial r rs ∷ merges s kind made (source + 1) (merged r partial) rs
+    merge_head s kind made source r (written_before rs (merged r partial) made)
+    ∷ merges s kind made (source + 1) (merged r partial) rs
 
 -- the fold, where rounds of merges follow, and the merges
 abbrev pub fold_head : Setting → Reduction → NodeInfo → List Round → Step

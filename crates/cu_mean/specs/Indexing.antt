@@ -25,7 +25,7 @@ abbrev pub read_from : ℕ → List ℕ → List ℕ → List IndexItem → Fron
 read_from spare shape idx items front = front.read ++ indexed_from spare items (drop front.axis shape) (drop front.at idx)
 
 -- it has taken no more axes than there are
-pub record IsFront (shape idx : List ℕ) (front : Front) : Type 0 where
+pub record IsFrontWithin (shape idx : List ℕ) (front : Front) : Type 0 where
   pub axis : front.axis ≤ length shape
   pub at : front.at ≤ length idx
 

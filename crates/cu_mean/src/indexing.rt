@@ -5,7 +5,7 @@ ghost use Rattle.cu_shape.specs.Slice.{from_end, first_of};
 ghost use Rattle.cu_node.specs.declared.index_item.IndexItem.{IndexItem};
 ghost use Rattle.cu_semantics.specs.Index.{natural};
 ghost use Rattle.cu_semantics.specs.View.{indexed, sliced_index, uses_axis};
-ghost use Rattle.cu_mean.specs.Indexing.{read_from, HasStep, IsFoundIndex, IsFront, IsOutsideEach, TakesEntry};
+ghost use Rattle.cu_mean.specs.Indexing.{read_from, HasStep, IsFoundIndex, IsFrontWithin, IsOutsideEach, TakesEntry};
 
 use crate::axes::natural;
 use cu_form::IndexItem;
@@ -92,8 +92,8 @@ fn slice_at(start: Option<i64>, stop: Option<i64>, step: Option<i64>, n: u64, i:
 
 /// Takes an entry that names one place.
 fn take_place(x: i64, shape: &Dims, idx: &Dims, front: &mut Front) -> Taken
-    requires { IsFront shape.now idx.now front.old }
-    ensures front { IsFront shape.now idx.now front.new }
+    requires { IsFrontWithin shape.now idx.now front.old }
+    ensures front { IsFrontWithin shape.now idx.now front.new }
     ensures taken { (spare : ℕ) → TakesEntry (read_from spare shape.now idx.now) idx.now (IndexItem.At x) front.old front.new result }
 {
     if front.axis == shape.rank() {
@@ -117,8 +117,8 @@ struct SliceBounds {
 /// Takes a slice.
 fn take_slice(bounds: SliceBounds, shape: &Dims, idx: &Dims, front: &mut Front) -> Taken
     requires step { unwrap_or bounds.step (pos 1) ≢ pos 0 }
-    requires front { IsFront shape.now idx.now front.old }
-    ensures front { IsFront shape.now idx.now front.new }
+    requires front { IsFrontWithin shape.now idx.now front.old }
+    ensures front { IsFrontWithin shape.now idx.now front.new }
     ensures taken { (spare : ℕ) → TakesEntry (read_from spare shape.now idx.now) idx.now (IndexItem.Slice bounds.start bounds.stop bounds.step) front.old front.new result }
 {
     if front.axis == shape.rank() {
@@ -144,8 +144,8 @@ fn take_slice(bounds: SliceBounds, shape: &Dims, idx: &Dims, front: &mut Front) 
 
 /// Takes a new axis.
 fn take_new(shape: &Dims, idx: &Dims, front: &mut Front) -> Taken
-    requires { IsFront shape.now idx.now front.old }
-    ensures front { IsFront shape.now idx.now front.new }
+    requires { IsFrontWithin shape.now idx.now front.old }
+    ensures front { IsFrontWithin shape.now idx.now front.new }
     ensures taken { (spare : ℕ) → TakesEntry (read_from spare shape.now idx.now) idx.now IndexItem.New front.old front.new result }
 {
     if front.at == idx.rank() {
@@ -158,8 +158,8 @@ fn take_new(shape: &Dims, idx: &Dims, front: &mut Front) -> Taken
 /// Takes the axes that no entry takes.
 fn take_spare(spare: u32, shape: &Dims, idx: &Dims, front: &mut Front) -> Taken
     requires spare { spare ≤ 6 }
-    requires front { IsFront shape.now idx.now front.old }
-    ensures front { IsFront shape.now idx.now front.new }
+    requires front { IsFrontWithin shape.now idx.now front.old }
+    ensures front { IsFrontWithin shape.now idx.now front.new }
     ensures taken { TakesEntry (read_from spare shape.now idx.now) idx.now IndexItem.Ellipsis front.old front.new result }
 {
     let axes = shape.rank();
@@ -179,8 +179,8 @@ fn take_spare(spare: u32, shape: &Dims, idx: &Dims, front: &mut Front) -> Taken
 fn take_item(item: &IndexItem, spare: u32, shape: &Dims, idx: &Dims, front: &mut Front) -> Taken
     requires step { HasStep item.now }
     requires spare { spare ≤ 6 }
-    requires front { IsFront shape.now idx.now front.old }
-    ensures front { IsFront shape.now idx.now front.new }
+    requires front { IsFrontWithin shape.now idx.now front.old }
+    ensures front { IsFrontWithin shape.now idx.now front.new }
     ensures taken { TakesEntry (read_from spare shape.now idx.now) idx.now item.now front.old front.new result }
 {
     match *item {

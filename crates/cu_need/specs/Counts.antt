@@ -12,19 +12,19 @@ use Rattle.cu_need.specs.declared.counts.PlanCounts.{PlanCounts}
 use Rattle.cu_need.specs.declared.counts.OverLimit.{OverLimit}
 
 -- the tasks that make node k besides copies, and the chunks that they store
-abbrev pub own_tasks : ℕ → List NodeInfo → ℕ → Form → ℕ
-own_tasks split_every infos k form = outline_tasks (outline_of split_every infos k form)
+abbrev pub form_tasks : ℕ → List NodeInfo → ℕ → Form → ℕ
+form_tasks split_every infos k form = outline_tasks (outline_of split_every infos k form)
 
-abbrev pub own_cells : ℕ → List NodeInfo → ℕ → Form → ℕ
-own_cells split_every infos k form = outline_cells (outline_of split_every infos k form)
+abbrev pub form_cells : ℕ → List NodeInfo → ℕ → Form → ℕ
+form_cells split_every infos k form = outline_cells (outline_of split_every infos k form)
 
 -- With those of the copies, each region of which has at most `most` bytes: a copy has a task for each region, and each task stores all
 -- chunks in its region.
 abbrev pub node_tasks : ℕ → ℕ → List NodeInfo → ℕ → ℕ → Form → ℕ
-node_tasks most split_every infos out k form = sum_by (rechunk_tasks most) (copies_of infos out k form) + own_tasks split_every infos k form
+node_tasks most split_every infos out k form = sum_by (rechunk_tasks most) (copies_of infos out k form) + form_tasks split_every infos k form
 
 abbrev pub node_cells : ℕ → ℕ → List NodeInfo → ℕ → ℕ → Form → ℕ
-node_cells most split_every infos out k form = sum_by (rechunk_cells most) (copies_of infos out k form) + own_cells split_every infos k form
+node_cells most split_every infos out k form = sum_by (rechunk_cells most) (copies_of infos out k form) + form_cells split_every infos k form
 
 -- the sums over the live nodes
 abbrev pub plan_counts : ℕ → ℕ → Expression → List NodeInfo → PlanCounts

@@ -3,7 +3,7 @@
 ghost use Rattle.std.specs.Prelude.{◌≡◌, ◌≤◌, ◌^◌, true, All};
 ghost use Rattle.cu_form.specs.Form.{takes_args};
 ghost use Rattle.cu_node.specs.Info.{IsInfo};
-ghost use Rattle.cu_need.specs.Counts.{own_tasks, own_cells, node_tasks, node_cells, plan_counts, over_limit};
+ghost use Rattle.cu_need.specs.Counts.{form_tasks, form_cells, node_tasks, node_cells, plan_counts, over_limit};
 ghost use Rattle.cu_copy.specs.Copies.{IsRechunk};
 ghost use Rattle.cu_need.specs.Operands.{operands_of};
 ghost use Rattle.cu_need.specs.Need.{ArePartialsWithin, IsNodeWithin, AreWithinLimits};
@@ -46,8 +46,8 @@ fn own_counts(split_every: u32, infos: &[NodeInfo], number: u32, form: &Form) ->
     requires infos { All IsInfo infos.now }
     requires partials { ArePartialsWithin infos.now number form.now }
     requires operands { All IsRechunk (operands_of infos.now number form.now) }
-    ensures tasks { result.tasks ≡ own_tasks split_every infos.now number form.now }
-    ensures cells { result.cells ≡ own_cells split_every infos.now number form.now }
+    ensures tasks { result.tasks ≡ form_tasks split_every infos.now number form.now }
+    ensures cells { result.cells ≡ form_cells split_every infos.now number form.now }
     ensures few_tasks { result.tasks ≤ 2 ^ 38 }
     ensures few_cells { result.cells ≤ 2 ^ 39 }
 {

@@ -29,6 +29,6 @@ pub mod Value
 pub mod Walks
 pub mod Within
 pub mod Numbers
-pub mod Form
+pub mod Route
 pub mod Along
 pub mod Grouping

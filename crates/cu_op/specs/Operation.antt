@@ -1,6 +1,6 @@
 -- What each kind of operation reads and writes, and how its arrays stand to one another.
 use Rattle.cu_op.specs.Arrays.{maker_at, grid_at}
-use Rattle.cu_op.specs.Form.{Form}
+use Rattle.cu_op.specs.Route.{Route}
 use Rattle.cu_op.specs.Kinds.{kind_of}
 use Rattle.cu_op.specs.declared.kernel.Instr.{Instr}
 use Rattle.cu_op.specs.declared.layout.ArrayInfo.{ArrayInfo}
@@ -57,9 +57,9 @@ IsNoLonger arrays coord a = (a < length arrays) × (length (grid_at arrays a).sh
 abbrev pub renumbered : (ℕ → ℕ) → Op → Op
 renumbered f op = (kind_of op).renumbered f
 
--- how its tasks come by the elements that they write
-abbrev pub form_of : Op → Form
-form_of op = (kind_of op).form
+-- the route by which its tasks come by the elements that they write
+abbrev pub route_of : Op → Route
+route_of op = (kind_of op).route
 
 -- the array whose elements a search compares, and the array of their values, where it is stored
 abbrev pub compared_array : Op → Option ℕ

@@ -18,7 +18,7 @@ use Rattle.cu_op.specs.Numbers.{stands_in}
 use Rattle.cu_fuse.proofs.ChosenRooms.{fits_told, told_fits}
 use Rattle.cu_fuse.specs.Inlining.{inlined_by, inlining, prefix_where, read_count, trial, FitsOneTask, IsInlinedOf, IsInliningChoice, MayBeInlined}
 use Rattle.cu_fuse.specs.Rooms.{fits_one_task}
-use Rattle.cu_plan.specs.Inlined.{inlined_arrays, inlined_of, is_taken, may_be_inlined, reading, readings, taken, Reading}
+use Rattle.cu_plan.specs.Inlined.{inlined_arrays, inlined_of, reading_fits, may_be_inlined, reading, readings, taken, Reading}
 use Rattle.cu_plan.proofs.Takings.{arrays_in, here_taken, so_far, taken_here, taking, times, times-append, Taking}
 use Rattle.cu_plan.proofs.Tests.{may_told, told_may}
 
@@ -105,26 +105,26 @@ module _ (p : PlanView) where
   chosen = stands_in (inlined_arrays p)
 
   -- what is taken may be inlined
-  may : (b : ℕ) (t : Taking (is_taken p) [] all b) → MayBeInlined p t.one.reader b
+  may : (b : ℕ) (t : Taking (reading_fits p) [] all b) → MayBeInlined p t.one.reader b
   may b t =
-      let both = and_parts (may_be_inlined p t.one.reader t.one.array) (fits_one_task (inlining p (stands_in (t.one.array ∷ taken (is_taken p) [] t.front))) t.one.reader) t.passes in
+      let both = and_parts (may_be_inlined p t.one.reader t.one.array) (fits_one_task (inlining p (stands_in (t.one.array ∷ taken (reading_fits p) [] t.front))) t.one.reader) t.passes in
       subst (MayBeInlined p t.one.reader) t.array (may_told p t.one.reader t.one.array both.0)
 
-  once : (b : ℕ) → Taking (is_taken p) [] all b → times b all ≤ 1
+  once : (b : ℕ) → Taking (reading_fits p) [] all b → times b all ≤ 1
   once b t = let c = (may b t).once in let e = times_in b 0 p.ops in omega (arith, c, e)
 
   -- with what is taken before it
-  tried : (k i a : ℕ) (h : Place 0 p.ops k i a) → inlining p (stands_in (a ∷ taken (is_taken p) [] h.front)) ≡ trial p chosen k i a
+  tried : (k i a : ℕ) (h : Place 0 p.ops k i a) → inlining p (stands_in (a ∷ taken (reading_fits p) [] h.front)) ≡ trial p chosen k i a
   tried k i a h =
       ap (inlining p)
-      (λ j b. (same_test a b j) || ((so_far (is_taken p) all once h.front (reading (0 + k) a) h.back h.is b ∙ ap (λ l. chosen b && stands_in l b) h.before) j))
+      (λ j b. (same_test a b j) || ((so_far (reading_fits p) all once h.front (reading (0 + k) a) h.back h.is b ∙ ap (λ l. chosen b && stands_in l b) h.before) j))
 
   chosen_told : (k i a : ℕ) → slice_get (reads_of (op_of p k)) i ≡ Some a → chosen a ≡ true → MayBeInlined p k a × FitsOneTask (trial p chosen k i a) k
   chosen_told k i a e t =
       let h = place p.ops 0 k i a e in
       let z : 0 + k ≡ k = omega arith in
-      let passes = taken_here (is_taken p) all once h.front (reading (0 + k) a) h.back h.is t in
-      let both = and_parts (may_be_inlined p (0 + k) a) (fits_one_task (inlining p (stands_in (a ∷ taken (is_taken p) [] h.front))) (0 + k)) passes in
+      let passes = taken_here (reading_fits p) all once h.front (reading (0 + k) a) h.back h.is t in
+      let both = and_parts (may_be_inlined p (0 + k) a) (fits_one_task (inlining p (stands_in (a ∷ taken (reading_fits p) [] h.front))) (0 + k)) passes in
       let room : fits_one_task (trial p chosen k i a) (0 + k) ≡ true = ap (λ q. fits_one_task q (0 + k)) (sym (tried k i a h)) ∙ both.1 in
       (subst (λ n. MayBeInlined p n a) z (may_told p (0 + k) a both.0), subst (FitsOneTask (trial p chosen k i a)) z (fits_told (trial p chosen k i a) (0 + k) room))
 
@@ -133,14 +133,14 @@ module _ (p : PlanView) where
       let h = place p.ops 0 k i a e in
       let z : k ≡ 0 + k = omega arith in
       let first : may_be_inlined p (0 + k) a ≡ true = subst (λ n. may_be_inlined p n a ≡ true) z (told_may p k a may) in
-      let second : fits_one_task (inlining p (stands_in (a ∷ taken (is_taken p) [] h.front))) (0 + k) ≡ true =
+      let second : fits_one_task (inlining p (stands_in (a ∷ taken (reading_fits p) [] h.front))) (0 + k) ≡ true =
       ap (λ q. fits_one_task q (0 + k)) (tried k i a h) ∙ subst (λ n. fits_one_task (trial p chosen k i a) n ≡ true) z (told_fits (trial p chosen k i a) k room) in
-      here_taken (is_taken p) all once h.front (reading (0 + k) a) h.back h.is (rw (first, second) refl)
+      here_taken (reading_fits p) all once h.front (reading (0 + k) a) h.back h.is (rw (first, second) refl)
 
   unread : (a : ℕ) → read_count p.ops a ≡ 0 → chosen a ≡ false
   unread a none = elim (bool_cases (chosen a)) [
     | inr f ↦ f
-    | inl t ↦ let c = (may a (taking (is_taken p) all a t)).once in absurd (omega (arith, none, c))
+    | inl t ↦ let c = (may a (taking (reading_fits p) all a t)).once in absurd (omega (arith, none, c))
   ]
 
   is_choice : IsInliningChoice p chosen
@@ -157,7 +157,7 @@ module _ (p : PlanView) where
       elim (cases_lt a (length p.arrays)) [
         | inl l ↦ l
         | inr past ↦
-            let m = (may a (taking (is_taken p) all a t)).maker in
+            let m = (may a (taking (reading_fits p) all a t)).maker in
             let none = past_end p.arrays a past in
             let e = m.1 in cc
       ]

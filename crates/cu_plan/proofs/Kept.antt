@@ -18,7 +18,7 @@ use Rattle.cu_op.specs.Sound.{Sound}
 use Rattle.cu_op.specs.Value.{plan_value}
 use Rattle.cu_op.specs.declared.layout.Layout.{Layout}
 use Rattle.cu_op.specs.declared.operation.Planned.{Planned}
-use Rattle.cu_plan.specs.Keeping.{IsMadeName, Keeps}
+use Rattle.cu_plan.specs.Keeping.{IsMadeName, KeepsPlan}
 use Rattle.cu_shape.specs.Index.{IsInside}
 
 -- what each operation needs is allowed
@@ -33,7 +33,7 @@ IsPlain p = (a : ℕ) → HasCells p.arrays a → (array_at p.arrays a).layout.e
 
 module _ (p : PlanView) (n : ℕ) (sound : Sound p) (stored : AllStored p.arrays) (names : HasMadeNames p) (first : HasInputsFirst p n)
     (output : maker_at p.arrays p.out ≢ None) (plain : IsPlain p) where
-  closed_keeps : (ops : List Planned) → IsLeft p ops → IsWithin (closed (setting_of p) ops) → Keeps p n (closed (setting_of p) ops)
+  closed_keeps : (ops : List Planned) → IsLeft p ops → IsWithin (closed (setting_of p) ops) → KeepsPlan p n (closed (setting_of p) ops)
   closed_keeps ops left needs =
       let again = closed_is_sound p ops sound stored names left in
       record {
@@ -52,13 +52,13 @@ module _ (p : PlanView) (n : ℕ) (sound : Sound p) (stored : AllStored p.arrays
       }
 
   module _ (room : p.allowed < 2 ^ 64) (few : IsWithin p) where
-    pub fused_keeps : Keeps p n (fused p)
+    pub fused_keeps : KeepsPlan p n (fused p)
     fused_keeps = closed_keeps (fused_ops (setting_by false p) p.ops) (fused_left false p sound stored room) (fused_within p room few)
 
-    pub fused_once_keeps : Keeps p n (fused_loading_once p)
+    pub fused_once_keeps : KeepsPlan p n (fused_loading_once p)
     fused_once_keeps = closed_keeps (fused_ops (setting_by true p) p.ops) (fused_left true p sound stored room) (fused_once_within p sound stored room few)
 
-    pub copies_keep : Keeps p n (copies_joined p)
+    pub copies_keep : KeepsPlan p n (copies_joined p)
     copies_keep =
         closed_keeps (joined_copies (setting_of p) p.ops) (copies_left p sound stored room)
         (closed_within p (joined_copies (setting_of p) p.ops) p.allowed (within_joined (setting_of p) p.ops few))
@@ -71,7 +71,7 @@ module _ (q r : PlanView) (n : ℕ) (stored : AllStored q.arrays) (output : make
       → ((a : ℕ) → maker_at r.arrays a ≡ maker_at q.arrays a) → ((a : ℕ) → maker_at q.arrays a ≡ None → array_at r.arrays a ≡ array_at q.arrays a)
       → HasInputsFirst r n → (array_at r.arrays r.out).prefix ≡ (array_at q.arrays q.out).prefix → (HasOwnNames q.arrays → HasOwnNames r.arrays)
       → ((a : ℕ) → a < length r.arrays → maker_at r.arrays a ≢ None → is_inlined r.arrays a ≡ false → IsMadeName (array_at q.arrays q.out).prefix (array_at r.arrays a).prefix)
-      → ((env : Elements) (a : ℕ) (idx : List ℕ) → plan_value r env a idx ≡ plan_value q env a idx) → Keeps q n r
+      → ((env : Elements) (a : ℕ) (idx : List ℕ) → plan_value r env a idx ≡ plan_value q env a idx) → KeepsPlan q n r
   inlined_keeps sound needs numbers long layouts makers inputs first name apart made values =
       let out = numbers.0 in
       record {
@@ -98,7 +98,7 @@ module _ (q r : PlanView) (n : ℕ) (stored : AllStored q.arrays) (output : make
 
 -- ---- of two steps
 
-pub both_keep : (p q r : PlanView) (n : ℕ) → Keeps p n q → Keeps q n r → Keeps p n r
+pub both_keep : (p q r : PlanView) (n : ℕ) → KeepsPlan p n q → KeepsPlan q n r → KeepsPlan p n r
 both_keep p q r n one two = record {
   sound = two.sound;
   allowed = two.allowed ∙ one.allowed;

@@ -13,7 +13,7 @@ use Rattle.cu_op.specs.declared.kernel.Instr.TheVariants.{Const, Load, Select, T
 use Rattle.cu_op.specs.declared.layout.ArrayInfo.{ArrayInfo}
 use Rattle.cu_op.specs.declared.operation.Op.{Op}
 use Rattle.cu_op.specs.declared.operation.Op.TheVariants.{Fold, Map, Merge}
-use Rattle.cu_plan.specs.Listed.{listed, sources_of}
+use Rattle.cu_plan.specs.Listed.{listed, awaited_ops}
 use Rattle.cu_plan.specs.Text.{begun_text, operation_fields, plan_line, plan_text}
 use Rattle.std.proofs.Common.{◌≡◌, ◌++◌, ℕ, Bool, true, false, List, [], ◌∷◌, Option, None, Some, codes, map, pos, refl}
 use Rattle.std.specs.Fmt.{digits}
@@ -56,7 +56,7 @@ numbers : listed plan ≡ 0 ∷ 2 ∷ 3 ∷ []
 unfolding plan double above count total array
 numbers = refl
 
-sources : map (sources_of plan) (0 ∷ 2 ∷ 3 ∷ []) ≡ [] ∷ (0 ∷ []) ∷ (2 ∷ []) ∷ []
+sources : map (awaited_ops plan) (0 ∷ 2 ∷ 3 ∷ []) ≡ [] ∷ (0 ∷ []) ∷ (2 ∷ []) ∷ []
 unfolding plan double above count total array
 sources = refl
 

@@ -25,7 +25,7 @@ use Rattle.cu_lower.specs.Plan.{plan_of}
 use Rattle.cu_lower.specs.Premises.{HasArraysInOrder, HaveElements, IsLiveInput, IsLowerable, IsOutput, expression_run}
 use Rattle.cu_lower.specs.declared.options.Options.{Options}
 use Rattle.cu_lower.proofs.Names.{array_name}
-use Rattle.cu_plan.specs.Keeping.{Keeps}
+use Rattle.cu_plan.specs.Keeping.{KeepsPlan}
 use Rattle.cu_plan.specs.Plan.{inlined_plan_of, merged_plan_of, HaveInputElements}
 
 -- ---- the two ways
@@ -114,7 +114,7 @@ module _ (e : Expression) (infos : List NodeInfo) (inputs : List InputInfo) (opt
         (place_of a one);
   }
 
-  module _ (q : PlanView) (kept : Keeps p n q) where
+  module _ (q : PlanView) (kept : KeepsPlan p n q) where
     pub merged_output : IsOutput e infos (array_at q.arrays q.out)
     merged_output = record { name = kept.name ∙ output.name; layout = kept.layout ∙ output.layout; made = kept.output }
 
@@ -156,7 +156,7 @@ module _ (e : Expression) (infos : List NodeInfo) (inputs : List InputInfo) (opt
     merged_value env idx inside = kept.value env idx (subst (λ (l : Layout). IsInside l.grid.shape idx) (sym output.layout) inside)
 
   -- elements of the inputs' types are so before the merges
-  pub elements_before : Keeps p n (merged_plan_of e infos inputs options) → (env : Elements) (elements : NodeElements)
+  pub elements_before : KeepsPlan p n (merged_plan_of e infos inputs options) → (env : Elements) (elements : NodeElements)
       → HaveInputElements e infos inputs options env elements → HaveElements e infos inputs options env elements
   elements_before kept env elements have = record {
     lowerable = have.lowerable;

@@ -39,8 +39,8 @@ readings k (o ∷ os) = map (reading k) (reads_of o.op) ++ readings (k + 1) os
 
 -- an array is inlined that may be, and with which its reader fits one task, where these are inlined
 -- so far
-abbrev pub is_taken : PlanView → List ℕ → Reading → Bool
-is_taken p so_far r =
+abbrev pub reading_fits : PlanView → List ℕ → Reading → Bool
+reading_fits p so_far r =
     may_be_inlined p r.reader r.array
     && fits_one_task (inlining p (stands_in (r.array ∷ so_far))) r.reader
 
@@ -53,7 +53,7 @@ taken test so_far [] = so_far
 taken test so_far (r ∷ rs) = taken test (with_next test so_far r) rs
 
 abbrev pub inlined_arrays : PlanView → List ℕ
-inlined_arrays p = taken (is_taken p) [] (readings 0 p.ops)
+inlined_arrays p = taken (reading_fits p) [] (readings 0 p.ops)
 
 -- the plan in which they are inlined
 abbrev pub inlined_of : PlanView → PlanView

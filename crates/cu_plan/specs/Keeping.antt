@@ -20,7 +20,7 @@ IsMadeName name prefix =
 -- The inputs, the first n arrays of plan p, are those of q; the result has its name, its layout and
 -- its values; made arrays have names that tell them apart; and q is sound within the memory that p
 -- is allowed.
-pub record Keeps (p : PlanView) (n : ℕ) (q : PlanView) : Type 0 where
+pub record KeepsPlan (p : PlanView) (n : ℕ) (q : PlanView) : Type 0 where
   pub sound : Sound q
   pub allowed : q.allowed ≡ p.allowed
   pub needs : (k : ℕ) → k < length q.ops → (operation_at q.ops k).projected ≤ p.allowed

@@ -40,5 +40,5 @@ comes_from p a j =
     else is_made_by (maker_at p.arrays a) j
 
 -- the operations that operation k waits for, each once, in their order
-abbrev pub sources_of : PlanView → ℕ → List ℕ
-sources_of p k = filter (waits_for p k) (range_with_len 0 k)
+abbrev pub awaited_ops : PlanView → ℕ → List ℕ
+awaited_ops p k = filter (waits_for p k) (range_with_len 0 k)

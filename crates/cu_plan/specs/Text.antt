@@ -14,7 +14,7 @@ use Rattle.cu_op.specs.Within.{listed_number}
 use Rattle.cu_op.specs.declared.layout.ArrayInfo.{ArrayInfo}
 use Rattle.cu_op.specs.declared.operation.Op.{Op}
 use Rattle.cu_op.specs.declared.operation.Planned.{Planned}
-use Rattle.cu_plan.specs.Listed.{listed, sources_of}
+use Rattle.cu_plan.specs.Listed.{listed, awaited_ops}
 use Rattle.cu_shape.specs.Counts.{largest}
 
 -- the chunks of the arrays that an operation writes
@@ -47,7 +47,7 @@ comma_text numbers = join_by decimal (44 ∷ []) numbers
 -- that it waits for
 abbrev pub begun_line : PlanView → ℕ → List ℕ
 begun_line p k =
-    fields_of p k ++ codes " reads=" ++ comma_text (map (listed_number p) (sources_of p k))
+    fields_of p k ++ codes " reads=" ++ comma_text (map (listed_number p) (awaited_ops p k))
     ++ 10 ∷ []
 
 -- ---- the whole text

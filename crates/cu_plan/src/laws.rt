@@ -26,7 +26,7 @@ ghost use Rattle.cu_op.specs.Value.{plan_value};
 ghost use Rattle.cu_op.specs.Walks.{read_chunks, EachOnce};
 ghost use Rattle.cu_shape.specs.Index.{IsInside};
 ghost use Rattle.cu_run_law.specs.Names.{HasPlanNames};
-ghost use Rattle.cu_plan.specs.Keeping.{Keeps};
+ghost use Rattle.cu_plan.specs.Keeping.{KeepsPlan};
 ghost use Rattle.cu_plan.specs.Plan.{HaveInputElements, merged_plan_of};
 ghost use Rattle.cu_plan.specs.ReadsChunk.{ReadsChunk};
 ghost use Rattle.cu_plan.specs.Refusal.{planned_counts, refusal_of, AreWithin, IsFirstLimit};
@@ -69,7 +69,7 @@ pub fn refusal_law()
 fn keeping_law()
     ensures { (e : Expression) (infos : List NodeInfo) (inputs : List InputInfo) (options : Options)
         → IsLowerable e infos inputs options
-        → Keeps (plan_of e infos inputs options) (length (input_names e))
+        → KeepsPlan (plan_of e infos inputs options) (length (input_names e))
         (merged_plan_of e infos inputs options) }
 {
     plan_law();

@@ -3,7 +3,7 @@
 
 ghost use Rattle.std.specs.Prelude.{◌≡◌, ◌<◌, IfOk, length, map};
 ghost use Rattle.cu_op.specs.Within.{listed_number};
-ghost use Rattle.cu_plan.specs.Listed.{comes_from, sources_of, waits_for};
+ghost use Rattle.cu_plan.specs.Listed.{comes_from, awaited_ops, waits_for};
 
 use cu_op::{Plan, listed_number};
 use std::alloc::{AllocError, Global};
@@ -13,7 +13,7 @@ use std::alloc::{AllocError, Global};
 pub(crate) fn source_numbers(alloc: Global, plan: &Plan, op: u32) -> Result<Vec<u32>, AllocError>
     requires { op < length plan.now.ops }
     ensures { IfOk result (λ numbers. numbers.items
-        ≡ map (listed_number plan.now) (sources_of plan.now op)) }
+        ≡ map (listed_number plan.now) (awaited_ops plan.now op)) }
 {
     let mut numbers = Vec::new(alloc);
     for other in 0..op {

@@ -5,7 +5,7 @@ use Rattle.cu_shape.specs.Index.{product, differences}
 use Rattle.cu_grid.specs.Counts.{IsRegion}
 use Rattle.cu_grid.specs.Cover.{Meets}
 use Rattle.cu_grid.specs.Grid.{IsGrid}
-use Rattle.cu_codec.specs.Parts.{IsOneChunk}
+use Rattle.cu_codec.specs.Parts.{IsWholeChunk}
 use Rattle.cu_store.specs.Held.{Contents}
 use Rattle.cu_store.specs.Steps.{Changes}
 use Rattle.cu_region.specs.Reading.{key_at, bytes_of, ReadsPart}
@@ -34,7 +34,7 @@ bytes_of_region part = product (differences part.region.now.hi part.region.now.l
 
 -- the region is the chunk
 abbrev pub IsAllOfChunk : RegionPart → Type 0
-IsAllOfChunk part = IsOneChunk part.info.now.layout.grid.chunk part.coord part.region.now.lo part.region.now.hi
+IsAllOfChunk part = IsWholeChunk part.info.now.layout.grid.chunk part.coord part.region.now.lo part.region.now.hi
 
 -- the elements of the part were read into the region's buffer, and the others are as before
 abbrev pub ReadsRegionPart : RegionPart → Option Contents → List ℕ → List ℕ → Type 0

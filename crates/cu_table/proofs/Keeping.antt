@@ -15,7 +15,7 @@ use Rattle.cu_table.specs.declared.state.Ending.{Ending}
 use Rattle.cu_table.specs.declared.state.Ending.TheVariants.{Broken, Halted}
 use Rattle.cu_table.specs.Numbers.{IsTask, task_count, task_number}
 use Rattle.cu_table.specs.Machine.{Machine, no_task, state_at, Runs, RunsNothing, with_task, opened, opening, copy_started, copy_ended, one_copy_more, one_copy_less, done_now, failed_now, without}
-use Rattle.cu_table.specs.Step.{Settings, Step, StepOf, IsStart, CanStart, IsReport, IsLateReport, Run, Replays, Legal, ending_after}
+use Rattle.cu_table.specs.Step.{Settings, Step, StepOf, MayStart, CanStart, IsReport, IsLateReport, Run, Replays, Legal, ending_after}
 use Rattle.cu_table.proofs.Numbers.{number_below, number_once}
 use Rattle.cu_table.proofs.Copies.{a_copy, Apart, weight, copies_of, weight_own, weight_other, apart_push, apart_without, All-without, sum_without}
 
@@ -215,7 +215,7 @@ module _ (g : Settings) (m : Machine) (e : Entry) (new : Machine) (kept : Kept g
   can_start (inl (ready, waits)) = (waits.0, let w = waits.1 in omega (arith, w))
   can_start (inr (none, on, single)) = (single.0, let w = single.1 in omega (arith, w))
 
-  start_step : IsStart g m e → new ≡ copy_started g.plan m e → Kept g.plan g.retries new × (left g.retries new + 1 ≤ left g.retries m)
+  start_step : MayStart g m e → new ≡ copy_started g.plan m e → Kept g.plan g.retries new × (left g.retries new + 1 ≤ left g.retries m)
   start_step can is =
       let may = can_start can.can in
       let s = state_at g.plan m e.op e.task in

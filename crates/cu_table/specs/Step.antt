@@ -26,7 +26,7 @@ CanStart s m op task =
     ⊎ (NoneWaits s.plan m × (s.backups ≡ true) × IsSingleTask s.plan m op task)
 
 -- when a worker may start a task
-pub record IsStart (s : Settings) (m : Machine) (e : Entry) : Type 0 where
+pub record MayStart (s : Settings) (m : Machine) (e : Entry) : Type 0 where
   pub going : m.ended ≡ None
   pub free : RunsNothing m e.worker
   pub task : IsTask s.plan e.op e.task
@@ -57,7 +57,7 @@ ending_after retries failures op task = if failures == retries then Some (Broken
 
 -- from old, by an entry of this kind, to new
 abbrev pub StepOf : Settings → Machine → EventKind → Entry → Machine → Type 0
-StepOf s old Start e new = IsStart s old e × (new ≡ copy_started s.plan old e)
+StepOf s old Start e new = MayStart s old e × (new ≡ copy_started s.plan old e)
 StepOf s old Done e new = IsReport s.plan old e
     × (new ≡ copy_ended s.plan old e (done_now (state_at s.plan old e.op e.task)) None)
 StepOf s old Failed e new =

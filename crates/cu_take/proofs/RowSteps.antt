@@ -22,7 +22,7 @@ use Rattle.cu_reduce.proofs.Combined.{taken_in_range}
 use Rattle.cu_reduce.specs.Folds.{exact_sum}
 use Rattle.cu_reduce.proofs.Folding.{fold_append, running_fold, running_in_range, wrapped_second}
 use Rattle.cu_reduce.proofs.Ranges.{range_append, map_ranges, map-append}
-use Rattle.cu_take.specs.Taken.{HasTaken, IsOutside, elements_at_places, column}
+use Rattle.cu_take.specs.Taken.{HasTaken, IsOutside, elements_at_places, column_places}
 use Rattle.cu_take.proofs.Buffers.{number_read}
 use Rattle.cu_take.proofs.Taking.{taken_element, takes_more, takes_none, takes_same}
 
@@ -144,16 +144,16 @@ added_last x y = omega (arith, ints)
 
 -- one element more
 pub column_sum : (t : Dtype) (bytes : List ℕ) (place width k j : ℕ)
-    → exact_sum (elements_at_places t bytes (column place width (k + 1) j))
-    ≡ exact_sum (elements_at_places t bytes (column place width k j))
+    → exact_sum (elements_at_places t bytes (column_places place width (k + 1) j))
+    ≡ exact_sum (elements_at_places t bytes (column_places place width k j))
     +ℤ element_at Little t bytes (place + k * width + j)
 column_sum t bytes place width k j =
     let f : ℕ → ℕ = λ n. place + n * width + j in
     let element : ℕ → ℤ = λ p. element_at Little t bytes p in
-    let xs = elements_at_places t bytes (column place width k j) in
+    let xs = elements_at_places t bytes (column_places place width k j) in
     ap (λ ps. exact_sum (map element ps)) (map-range_with_len_more f 0 k k
     (let e : 0 + k ≡ k = omega arith in e))
-    ∙ ap exact_sum (map-append element (column place width k j) (f k ∷ []))
+    ∙ ap exact_sum (map-append element (column_places place width k j) (f k ∷ []))
     ∙ fold_append Sum xs (element (f k) ∷ []) tt tt ∙ added_last (exact_sum xs) (element (f k))
 
 -- ---- a row of results
@@ -217,16 +217,16 @@ results_more kind acc old mid new q xs j n h g others = record {
 -- ---- more rows
 
 pub no_rows : (kind : FoldKind) (from acc : Dtype) (input old : List ℕ) (q place width j : ℕ)
-    → HasTaken kind acc old old q (elements_at_places from input (column place width 0 j))
+    → HasTaken kind acc old old q (elements_at_places from input (column_places place width 0 j))
 no_rows kind from acc input old q place width j = takes_none kind acc old old q refl
 
-pub column_one : (place width j : ℕ) → (place + j) ∷ [] ≡ column place width 1 j
+pub column_one : (place width j : ℕ) → (place + j) ∷ [] ≡ column_places place width 1 j
 column_one place width j = ap (λ p. p ∷ []) (let e : place + j ≡ place + 0 * width + j =
     omega arith in e)
 
 pub column_four : (place width j : ℕ)
     → (place + j) ∷ (place + j + width) ∷ (place + j + 2 * width) ∷ (place + j + 3 * width) ∷ []
-    ≡ column place width 4 j
+    ≡ column_places place width 4 j
 column_four place width j =
     let a : place + j ≡ place + 0 * width + j = omega arith in
     let b : place + j + width ≡ place + 1 * width + j = omega arith in
@@ -238,14 +238,14 @@ pub rows_left : (place width k left : ℕ) → place + k * width + left * width
     ≡ place + (k + left) * width
 rows_left place width k left = omega arith
 
-pub column_later : (place step count j i : ℕ) → column (place + j) step count i
-    ≡ column place step count (j + i)
+pub column_later : (place step count j i : ℕ) → column_places (place + j) step count i
+    ≡ column_places place step count (j + i)
 column_later place step count j i = map_ranges (λ k. place + j + k * step + i)
     (λ k. place + k * step + (j + i)) 0 0 count (λ k b. let e : place + j + (0 + k) * step + i
     ≡ place + (0 + k) * step + (j + i) = omega arith in e)
 
 pub column_more : (place width m n j : ℕ)
-    → column place width (m + n) j ≡ column place width m j ++ column (place + m * width) width n j
+    → column_places place width (m + n) j ≡ column_places place width m j ++ column_places (place + m * width) width n j
 column_more place width m n j =
     let f : ℕ → ℕ = λ k. place + k * width + j in
     let g : ℕ → ℕ = λ k. place + m * width + k * width + j in
@@ -257,14 +257,14 @@ column_more place width m n j =
 
 pub takes_more_rows : (kind : FoldKind) (from acc : Dtype) (input old mid new : List ℕ)
     (q place width m n j : ℕ)
-    → HasTaken kind acc old mid q (elements_at_places from input (column place width m j))
+    → HasTaken kind acc old mid q (elements_at_places from input (column_places place width m j))
     → HasTaken kind acc mid new q (elements_at_places from input
-    (column (place + m * width) width n j))
-    → HasTaken kind acc old new q (elements_at_places from input (column place width (m + n) j))
+    (column_places (place + m * width) width n j))
+    → HasTaken kind acc old new q (elements_at_places from input (column_places place width (m + n) j))
 takes_more_rows kind from acc input old mid new q place width m n j h g =
     let f : ℕ → ℤ = λ p. element_at Little from input p in
-    let first = column place width m j in
-    let next = column (place + m * width) width n j in
+    let first = column_places place width m j in
+    let next = column_places (place + m * width) width n j in
     subst (HasTaken kind acc old new q) (sym (ap (map f) (column_more place width m n j)
     ∙ map-append f first next))
     (takes_more kind acc old mid new q (elements_at_places from input first)

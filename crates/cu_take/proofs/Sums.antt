@@ -20,7 +20,7 @@ use Rattle.cu_reduce.specs.Folds.{exact_sum}
 use Rattle.cu_reduce.specs.Numbers.{HasNumber}
 use Rattle.cu_reduce.specs.Running.{running}
 use Rattle.cu_reduce.proofs.Folding.{running_fold, running_in_range, running_unit, zero_in_range}
-use Rattle.cu_take.specs.Taken.{HasTaken, elements_at_places, column}
+use Rattle.cu_take.specs.Taken.{HasTaken, elements_at_places, column_places}
 use Rattle.cu_take.proofs.Buffers.{number_read}
 use Rattle.cu_take.proofs.RowSteps.{short_range}
 
@@ -96,7 +96,7 @@ elements_in_range t bytes (p ∷ places) = All-cons (InRange t) _ _
     (InRange-element_at Little t bytes p) (elements_in_range t bytes places)
 
 pub column_length : (t : Dtype) (bytes : List ℕ) (place step count j : ℕ)
-    → length (elements_at_places t bytes (column place step count j)) ≡ count
+    → length (elements_at_places t bytes (column_places place step count j)) ≡ count
 column_length t bytes place step count j = simp (length-map, length-range_with_len)
 
 pub number_fits : (t : Dtype) (j : ℕ) → j < 32 → size_of t ≤ 4
@@ -135,7 +135,7 @@ pub takes_sum : (acc narrow : Dtype) (old new sums : List ℕ)
     (n q step j : ℕ) (xs : List ℤ) → IsInteger acc → IsInteger narrow
     → InRange narrow (exact_sum xs) → j * size_of narrow + size_of narrow ≤ n
     → HasTaken Sum narrow (replicate n 0) sums (0 + j) xs
-    → HasTaken Sum acc old new q (elements_at_places narrow sums (column 0 step 1 j))
+    → HasTaken Sum acc old new q (elements_at_places narrow sums (column_places 0 step 1 j))
     → HasTaken Sum acc old new q xs
 takes_sum acc narrow old new sums n q step j xs a b f fits first last =
     let own : 0 + j ≡ j = omega arith in

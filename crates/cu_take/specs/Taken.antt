@@ -14,8 +14,8 @@ abbrev pub elements_at_places : Dtype → List ℕ → List ℕ → List ℤ
 elements_at_places t bytes places = map (λ p. element_at Little t bytes p) places
 
 -- of so many rows of `width` elements, from a place on, the places of the elements at place j
-abbrev pub column : ℕ → ℕ → ℕ → ℕ → List ℕ
-column place width count j = map (λ k. place + k * width + j) (range_with_len 0 count)
+abbrev pub column_places : ℕ → ℕ → ℕ → ℕ → List ℕ
+column_places place width count j = map (λ k. place + k * width + j) (range_with_len 0 count)
 
 -- a place in front of so many, or behind them
 abbrev pub IsOutside : ℕ → ℕ → ℕ → Type 0

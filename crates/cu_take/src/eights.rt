@@ -3,7 +3,7 @@ ghost use Rattle.std.specs.Prelude.{◌≡◌, ◌≢◌, ◌+◌, ◌*◌, ◌�
 ghost use Rattle.cu_num.specs.Dtype.{size_of, InRange, IsInteger};
 ghost use Rattle.cu_num.specs.Element.{bytes_at};
 ghost use Rattle.cu_reduce.specs.Folds.{exact_sum};
-ghost use Rattle.cu_take.specs.Taken.{HasTaken, IsOutside, elements_at_places, column};
+ghost use Rattle.cu_take.specs.Taken.{HasTaken, IsOutside, elements_at_places, column_places};
 
 use crate::rows::{RowBlock, take_row};
 use cu_num::{Dtype, FoldKind, load, save, size, wrap};
@@ -34,7 +34,7 @@ fn add_column(
     requires input { (place + 7 * step + j + 1) * size_of from ≤ length input.now }
     requires out { q * size_of acc + size_of acc ≤ length out.old }
     ensures takes { HasTaken FoldKind.Sum acc out.old out.new q
-        (elements_at_places from input.now (column place step 8 j)) }
+        (elements_at_places from input.now (column_places place step 8 j)) }
     ensures others { (p : ℕ) → p ≢ q → bytes_at acc out.new p ≡ bytes_at acc out.old p }
 {
     let mut sum = 0i32;
@@ -63,7 +63,7 @@ fn add_columns(
     requires input { (place + 7 * rows.step + rows.width) * size_of from ≤ length input.now }
     requires out { (q + rows.width) * size_of acc ≤ length out.old }
     ensures takes { (j : ℕ) → j < rows.width → HasTaken FoldKind.Sum acc out.old out.new (q + j)
-        (elements_at_places from input.now (column place rows.step 8 j)) }
+        (elements_at_places from input.now (column_places place rows.step 8 j)) }
     ensures others { (p : ℕ) → IsOutside q (q + rows.width) p
         → bytes_at acc out.new p ≡ bytes_at acc out.old p }
 {
@@ -94,7 +94,7 @@ fn add_part(
     requires input { (place + 7 * step + 32) * size_of from ≤ length input.now }
     requires out { (q + 32) * size_of acc ≤ length out.old }
     ensures takes { (j : ℕ) → j < 32 → HasTaken FoldKind.Sum acc out.old out.new (q + j)
-        (elements_at_places from input.now (column place step 8 j)) }
+        (elements_at_places from input.now (column_places place step 8 j)) }
     ensures others { (p : ℕ) → IsOutside q (q + 32) p
         → bytes_at acc out.new p ≡ bytes_at acc out.old p }
 {
@@ -127,7 +127,7 @@ fn add_narrow_part(
     requires input { (place + 7 * step + 32) * size_of from ≤ length input.now }
     requires out { (q + 32) * size_of acc ≤ length out.old }
     ensures takes { (j : ℕ) → j < 32 → HasTaken FoldKind.Sum acc out.old out.new (q + j)
-        (elements_at_places from input.now (column place step 8 j)) }
+        (elements_at_places from input.now (column_places place step 8 j)) }
     ensures others { (p : ℕ) → IsOutside q (q + 32) p
         → bytes_at acc out.new p ≡ bytes_at acc out.old p }
 {
@@ -158,7 +158,7 @@ fn add_first_columns(
     ensures some { 0 < result }
     ensures within { result ≤ rows.width }
     ensures takes { (j : ℕ) → j < result → HasTaken FoldKind.Sum acc out.old out.new (q + j)
-        (elements_at_places from input.now (column place rows.step 8 j)) }
+        (elements_at_places from input.now (column_places place rows.step 8 j)) }
     ensures others { (p : ℕ) → IsOutside q (q + result) p
         → bytes_at acc out.new p ≡ bytes_at acc out.old p }
 {
@@ -186,7 +186,7 @@ fn add_eight_rows(
     requires input { (place + 8 * width) * size_of from ≤ length input.now }
     requires out { (q + width) * size_of acc ≤ length out.old }
     ensures takes { (j : ℕ) → j < width → HasTaken FoldKind.Sum acc out.old out.new (q + j)
-        (elements_at_places from input.now (column place width 8 j)) }
+        (elements_at_places from input.now (column_places place width 8 j)) }
     ensures others { (p : ℕ) → IsOutside q (q + width) p
         → bytes_at acc out.new p ≡ bytes_at acc out.old p }
 {
@@ -218,7 +218,7 @@ fn add_groups_of_eight(
     requires out { (q + rows.width) * size_of acc ≤ length out.old }
     ensures within { result ≤ rows.count }
     ensures takes { (j : ℕ) → j < rows.width → HasTaken FoldKind.Sum acc out.old out.new (q + j)
-        (elements_at_places from input.now (column place rows.width result j)) }
+        (elements_at_places from input.now (column_places place rows.width result j)) }
     ensures others { (p : ℕ) → IsOutside q (q + rows.width) p
         → bytes_at acc out.new p ≡ bytes_at acc out.old p }
 {
@@ -262,7 +262,7 @@ fn add_signed(
     ensures within { result ≤ rows.count }
     ensures takes { (j : ℕ) → j < rows.width
         → HasTaken FoldKind.Sum Dtype.Int64 out.old out.new (q + j)
-        (elements_at_places from input.now (column place rows.width result j)) }
+        (elements_at_places from input.now (column_places place rows.width result j)) }
     ensures others { (p : ℕ) → IsOutside q (q + rows.width) p
         → bytes_at Dtype.Int64 out.new p ≡ bytes_at Dtype.Int64 out.old p }
 {
@@ -285,7 +285,7 @@ fn add_unsigned(
     ensures within { result ≤ rows.count }
     ensures takes { (j : ℕ) → j < rows.width
         → HasTaken FoldKind.Sum Dtype.Uint64 out.old out.new (q + j)
-        (elements_at_places from input.now (column place rows.width result j)) }
+        (elements_at_places from input.now (column_places place rows.width result j)) }
     ensures others { (p : ℕ) → IsOutside q (q + rows.width) p
         → bytes_at Dtype.Uint64 out.new p ≡ bytes_at Dtype.Uint64 out.old p }
 {
@@ -310,7 +310,7 @@ pub(crate) fn add_eights(
     requires out { (q + rows.width) * size_of acc ≤ length out.old }
     ensures within { result ≤ rows.count }
     ensures takes { (j : ℕ) → j < rows.width → HasTaken FoldKind.Sum acc out.old out.new (q + j)
-        (elements_at_places from input.now (column place rows.width result j)) }
+        (elements_at_places from input.now (column_places place rows.width result j)) }
     ensures others { (p : ℕ) → IsOutside q (q + rows.width) p
         → bytes_at acc out.new p ≡ bytes_at acc out.old p }
 {

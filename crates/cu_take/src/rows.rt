@@ -5,7 +5,7 @@ ghost use Rattle.cu_num.specs.Dtype.{size_of, InRange};
 ghost use Rattle.cu_num.specs.Element.{bytes_at};
 ghost use Rattle.cu_reduce.specs.Kinds.{Accumulates};
 ghost use Rattle.cu_reduce.specs.Running.{running};
-ghost use Rattle.cu_take.specs.Taken.{HasTaken, IsOutside, elements_at_places, column};
+ghost use Rattle.cu_take.specs.Taken.{HasTaken, IsOutside, elements_at_places, column_places};
 
 use crate::eights::add_eights;
 use crate::steps::{joined, take_one};
@@ -155,7 +155,7 @@ pub(crate) fn take_row(
     requires input { (place + width) * size_of from ≤ length input.now }
     requires out { (q + width) * size_of acc ≤ length out.old }
     ensures takes { (j : ℕ) → j < width → HasTaken kind acc out.old out.new (q + j)
-        (elements_at_places from input.now (column place width 1 j)) }
+        (elements_at_places from input.now (column_places place width 1 j)) }
     ensures others { (p : ℕ) → IsOutside q (q + width) p
         → bytes_at acc out.new p ≡ bytes_at acc out.old p }
 {
@@ -180,7 +180,7 @@ fn take_four_rows(
     requires input { (place + 4 * width) * size_of from ≤ length input.now }
     requires out { (q + width) * size_of acc ≤ length out.old }
     ensures takes { (j : ℕ) → j < width → HasTaken kind acc out.old out.new (q + j)
-        (elements_at_places from input.now (column place width 4 j)) }
+        (elements_at_places from input.now (column_places place width 4 j)) }
     ensures others { (p : ℕ) → IsOutside q (q + width) p
         → bytes_at acc out.new p ≡ bytes_at acc out.old p }
 {
@@ -208,7 +208,7 @@ fn take_first_rows(
     ensures some { 0 < result }
     ensures within { result ≤ rows.count }
     ensures takes { (j : ℕ) → j < rows.width → HasTaken kind acc out.old out.new (q + j)
-        (elements_at_places from input.now (column place rows.width result j)) }
+        (elements_at_places from input.now (column_places place rows.width result j)) }
     ensures others { (p : ℕ) → IsOutside q (q + rows.width) p
         → bytes_at acc out.new p ≡ bytes_at acc out.old p }
 {
@@ -238,7 +238,7 @@ fn take_eights(
     requires out { (q + rows.width) * size_of acc ≤ length out.old }
     ensures within { result ≤ rows.count }
     ensures takes { (j : ℕ) → j < rows.width → HasTaken kind acc out.old out.new (q + j)
-        (elements_at_places from input.now (column place rows.width result j)) }
+        (elements_at_places from input.now (column_places place rows.width result j)) }
     ensures others { (p : ℕ) → IsOutside q (q + rows.width) p
         → bytes_at acc out.new p ≡ bytes_at acc out.old p }
 {
@@ -270,7 +270,7 @@ pub fn take_rows(
     requires input { (place + rows.count * rows.width) * size_of from ≤ length input.now }
     requires out { (q + rows.width) * size_of acc ≤ length out.old }
     ensures takes { (j : ℕ) → j < rows.width → HasTaken kind acc out.old out.new (q + j)
-        (elements_at_places from input.now (column place rows.width rows.count j)) }
+        (elements_at_places from input.now (column_places place rows.width rows.count j)) }
     ensures others { (p : ℕ) → IsOutside q (q + rows.width) p
         → bytes_at acc out.new p ≡ bytes_at acc out.old p }
 {

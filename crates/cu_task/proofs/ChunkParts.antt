@@ -35,7 +35,7 @@ use Rattle.cu_region.specs.Writing.{AreElements}
 use Rattle.cu_region.proofs.SteadyKeys.{same_or_not, first_or_rest, first_contains, rest_contains, none_contained}
 use Rattle.cu_task.proofs.ChunkRegions.{meets_one}
 use Rattle.cu_task.proofs.PullTask.{region_elements}
-use Rattle.cu_task.specs.ChunkCopies.{made_chunks, made_info, part_lo, part_hi, part_room, room_of_parts, CarriesPart, ChunkBytes, HasEachPart, HavePartsTaken, HoldsPart}
+use Rattle.cu_task.specs.ChunkCopies.{region_chunks, made_info, part_lo, part_hi, part_room, room_of_parts, CarriesPart, ChunkBytes, HasEachPart, HavePartsTaken, HoldsPart}
 use Rattle.cu_task.specs.OfTask.{ChangeBy}
 
 -- ---- the chunk of a chunk's region
@@ -115,9 +115,9 @@ module _ (t : TaskView) where
   -- up to this byte the parts have theirs, whatever stands behind it for those that are left
   abbrev pub TakenSoFar : ChunkBytes → List (List ℕ) → ℕ → List ℕ → List ℕ → Type 0
   TakenSoFar chunk left at old new = (behind_old behind_new : List ℕ) → HavePartsTaken t chunk left behind_old behind_new
-      → HavePartsTaken t chunk (made_chunks t) (take at old ++ behind_old) (take at new ++ behind_new)
+      → HavePartsTaken t chunk (region_chunks t) (take at old ++ behind_old) (take at new ++ behind_new)
 
-  pub taken_none : (chunk : ChunkBytes) (cs : List (List ℕ)) (old new : List ℕ) → cs ≡ made_chunks t → TakenSoFar chunk cs 0 old new
+  pub taken_none : (chunk : ChunkBytes) (cs : List (List ℕ)) (old new : List ℕ) → cs ≡ region_chunks t → TakenSoFar chunk cs 0 old new
   taken_none chunk cs old new e behind_old behind_new has = subst (λ (xs : List (List ℕ)). HavePartsTaken t chunk xs behind_old behind_new) e has
 
   pub taken_more : (chunk : ChunkBytes) (c : List ℕ) (rest : List (List ℕ)) (at end : ℕ) (old now own : List ℕ) → end ≡ at + part_room t c → end ≤ length old → length now ≡ length old
@@ -137,9 +137,9 @@ module _ (t : TaskView) where
       rw (front, back) (so_far (take (part_room t c) (drop at old) ++ behind_old) (own ++ behind_new)
       (first_taken chunk c rest (take (part_room t c) (drop at old)) own behind_old behind_new short (mine ∙ wide) mine_taken has))
 
-  pub taken_all : (chunk : ChunkBytes) (at : ℕ) (old new : List ℕ) → TakenSoFar chunk [] at old new → HavePartsTaken t chunk (made_chunks t) old new
-  taken_all chunk at old new so_far = subst (λ (xs : List ℕ). HavePartsTaken t chunk (made_chunks t) xs new) (take-append-drop at old)
-      (subst (λ (xs : List ℕ). HavePartsTaken t chunk (made_chunks t) (take at old ++ drop at old) xs) (take-append-drop at new) (so_far (drop at old) (drop at new) tt))
+  pub taken_all : (chunk : ChunkBytes) (at : ℕ) (old new : List ℕ) → TakenSoFar chunk [] at old new → HavePartsTaken t chunk (region_chunks t) old new
+  taken_all chunk at old new so_far = subst (λ (xs : List ℕ). HavePartsTaken t chunk (region_chunks t) xs new) (take-append-drop at old)
+      (subst (λ (xs : List ℕ). HavePartsTaken t chunk (region_chunks t) (take at old ++ drop at old) xs) (take-append-drop at new) (so_far (drop at old) (drop at new) tt))
 
   -- what stands behind a part is as it was
   pub behind_more : (at end : ℕ) (old now own : List ℕ) → at ≤ end → end ≤ length old → length now ≡ length old → length own ≡ end - at → drop at now ≡ drop at old
@@ -231,9 +231,9 @@ module _ (t : TaskView) where
 
   -- each chunk is among those that are left, or holds its value
   abbrev pub HeldSoFar : Elements → Shown → List (List ℕ) → Type 0
-  HeldSoFar env shown left = (coord : List ℕ) → Contains (made_chunks t) coord → Contains left coord ⊎ HoldsPart t env shown coord
+  HeldSoFar env shown left = (coord : List ℕ) → Contains (region_chunks t) coord → Contains left coord ⊎ HoldsPart t env shown coord
 
   -- the steps of several parts, of whose chunks so many are left, and the calls
   abbrev pub WritesSoFar : List ℕ → ℕ → Shown → Shown → Type 0
-  WritesSoFar buf left old new = (calls : ℕ) × (calls + left ≡ length (made_chunks t)) × Made calls old.calls new.calls
-      × ((start : Shown) → HasEachPart t (CarriesPart t start) (made_chunks t) buf → Steps (ChangeBy t start) 0 calls old new)
+  WritesSoFar buf left old new = (calls : ℕ) × (calls + left ≡ length (region_chunks t)) × Made calls old.calls new.calls
+      × ((start : Shown) → HasEachPart t (CarriesPart t start) (region_chunks t) buf → Steps (ChangeBy t start) 0 calls old new)

@@ -42,7 +42,7 @@ use Rattle.cu_task.proofs.InputReads.{all_made, still_first, walk_tally}
 use Rattle.cu_task.proofs.TaskKinds.{of_copy}
 use Rattle.cu_task.proofs.TaskRegions.{only_calls, only_tally, scratch_written, target_written, written_in, Written}
 use Rattle.cu_task.proofs.TaskSteps.{late_value, only_array, steady_reads, still_holds, written_at}
-use Rattle.cu_task.specs.ChunkCopies.{made_chunks, made_info, made_number, own_lo, own_hi, part_lo, part_hi, part_room, room_of_parts, CarriesPart, HasEachPart, HoldsPart, IsChunkCopy, ReadsParts}
+use Rattle.cu_task.specs.ChunkCopies.{region_chunks, made_info, made_number, own_lo, own_hi, part_lo, part_hi, part_room, room_of_parts, CarriesPart, HasEachPart, HoldsPart, IsChunkCopy, ReadsParts}
 use Rattle.cu_task.specs.Inputs.{IsWalkKey}
 use Rattle.cu_task.specs.Calls.{weight_in}
 use Rattle.cu_task.specs.OfTask.{calls_to_write, scratch_bytes, tally_to_write, ChangeBy, HoldsMade, IsOwnTask, IsReadyFor, MayReadMade}
@@ -59,11 +59,11 @@ module _ (t : TaskView) (s : Sound t.plan) where
   made = written_in t.plan s t.op (task_op t) (fit_of t.plan s t.op t.operation) t.number t.within (made_number t) (target_written (task_op t))
 
   -- the chunks that are made are those that meet the region
-  pub made_chunk : (coord : List ℕ) → Contains (made_chunks t) coord → Meets (made_info t).layout.grid (own_lo t) (own_hi t) coord
-  made_chunk coord = (exact_of (made_info t).layout.grid (own_lo t) (own_hi t) (made_chunks t) made.grid made.over.1 refl coord).0
+  pub made_chunk : (coord : List ℕ) → Contains (region_chunks t) coord → Meets (made_info t).layout.grid (own_lo t) (own_hi t) coord
+  made_chunk coord = (exact_of (made_info t).layout.grid (own_lo t) (own_hi t) (region_chunks t) made.grid made.over.1 refl coord).0
 
-  pub chunk_made : (coord : List ℕ) → Meets (made_info t).layout.grid (own_lo t) (own_hi t) coord → Contains (made_chunks t) coord
-  chunk_made coord = (exact_of (made_info t).layout.grid (own_lo t) (own_hi t) (made_chunks t) made.grid made.over.1 refl coord).1
+  pub chunk_made : (coord : List ℕ) → Meets (made_info t).layout.grid (own_lo t) (own_hi t) coord → Contains (region_chunks t) coord
+  chunk_made coord = (exact_of (made_info t).layout.grid (own_lo t) (own_hi t) (region_chunks t) made.grid made.over.1 refl coord).1
 
   pub part_region : (coord : List ℕ) → IsCoordinate (made_info t).layout.grid coord → IsRegion (made_info t).layout.grid.shape (part_lo t coord) (part_hi t coord)
   part_region coord here = region_inside (made_info t).layout.grid.shape (made_info t).layout.grid.chunk coord made.grid.positive made.grid.ranks here
@@ -96,7 +96,7 @@ module _ (t : TaskView) (s : Sound t.plan) where
       }
 
   -- a part that has what is held spells the value of its chunk, where the task was ready
-  carries_part : (w : Walk) (is : IsCopy (task_op t)) (from : w ≡ walk_at t 0) (start : Shown) (coord own : List ℕ) → Contains (made_chunks t) coord
+  carries_part : (w : Walk) (is : IsCopy (task_op t)) (from : w ≡ walk_at t 0) (start : Shown) (coord own : List ℕ) → Contains (region_chunks t) coord
       → ((env : Elements) (ready : IsReadyFor t env start) → ReadsRegion (array_at t.plan.arrays w.array) (part_lo t coord) (part_hi t coord) (Some ready.held) own)
       → type_at t.plan.arrays w.array ≡ (made_info t).layout.dtype → CarriesPart t start coord own
   carries_part w is from start coord own there reads types env ready =
@@ -111,13 +111,13 @@ module _ (t : TaskView) (s : Sound t.plan) where
       ∙ sym (walked.copy.value (with_inlined t.plan (stored_inputs t.plan.arrays ready.held)) idx)
       ∙ ready_rule t.plan s t.op t.number (made_number t) env ready.held coord idx ready.inputs (record { operation = t.operation; number = t.within; cell = made.written coord m }) here)
 
-  pub carries_parts : (w : Walk) → IsCopy (task_op t) → w ≡ walk_at t 0 → type_at t.plan.arrays w.array ≡ (made_info t).layout.dtype → (start : Shown) (buf : List ℕ) → room_of_parts t (made_chunks t) ≤ length buf
-      → ((held : Contents) → StillHolds (IsWalkKey t.plan.arrays w) held start → ReadsParts t w held (made_chunks t) buf) → HasEachPart t (CarriesPart t start) (made_chunks t) buf
+  pub carries_parts : (w : Walk) → IsCopy (task_op t) → w ≡ walk_at t 0 → type_at t.plan.arrays w.array ≡ (made_info t).layout.dtype → (start : Shown) (buf : List ℕ) → room_of_parts t (region_chunks t) ≤ length buf
+      → ((held : Contents) → StillHolds (IsWalkKey t.plan.arrays w) held start → ReadsParts t w held (region_chunks t) buf) → HasEachPart t (CarriesPart t start) (region_chunks t) buf
   carries_parts w is from types start buf room reads =
-      parts_more t (λ c own. (env : Elements) (ready : IsReadyFor t env start) → ReadsRegion (array_at t.plan.arrays w.array) (part_lo t c) (part_hi t c) (Some ready.held) own) (CarriesPart t start) (made_chunks t) buf room
+      parts_more t (λ c own. (env : Elements) (ready : IsReadyFor t env start) → ReadsRegion (array_at t.plan.arrays w.array) (part_lo t c) (part_hi t c) (Some ready.held) own) (CarriesPart t start) (region_chunks t) buf room
       (λ c own there long has. carries_part w is from start c own there has types)
-      (parts_for_all t Elements (λ env c own. (ready : IsReadyFor t env start) → ReadsRegion (array_at t.plan.arrays w.array) (part_lo t c) (part_hi t c) (Some ready.held) own) (made_chunks t) buf
-      (λ env. parts_for_all t (IsReadyFor t env start) (λ ready c own. ReadsRegion (array_at t.plan.arrays w.array) (part_lo t c) (part_hi t c) (Some ready.held) own) (made_chunks t) buf
+      (parts_for_all t Elements (λ env c own. (ready : IsReadyFor t env start) → ReadsRegion (array_at t.plan.arrays w.array) (part_lo t c) (part_hi t c) (Some ready.held) own) (region_chunks t) buf
+      (λ env. parts_for_all t (IsReadyFor t env start) (λ ready c own. ReadsRegion (array_at t.plan.arrays w.array) (part_lo t c) (part_hi t c) (Some ready.held) own) (region_chunks t) buf
       (λ ready. reads ready.held (still_of env ready))))
     where
       still_of : (env : Elements) (ready : IsReadyFor t env start) → StillHolds (IsWalkKey t.plan.arrays w) ready.held start
@@ -173,13 +173,13 @@ module _ (t : TaskView) (s : Sound t.plan) where
       ]
 
   -- all are
-  pub made_cell : IsCopy (task_op t) → (c : Cell) → Contains (written_chunks t.plan.arrays (task_op t) t.number) c → (c.array ≡ made_number t) × Contains (made_chunks t) c.coord
+  pub made_cell : IsCopy (task_op t) → (c : Cell) → Contains (written_chunks t.plan.arrays (task_op t) t.number) c → (c.array ≡ made_number t) × Contains (region_chunks t) c.coord
   made_cell is c there =
       let copy = of_copy t.plan t.op (task_op t) t.number (fit_of t.plan s t.op t.operation) is in
       let only : c.array ≡ made_number t = only_array t.plan s t.op t.number t.operation t.within (made_number t) copy.writes c there in
       (only, chunk_made c.coord (subst (λ (b : ℕ). Meets (grid_at t.plan.arrays b) (own_lo t) (own_hi t) c.coord) only (written_at t.plan s t.op t.number t.operation t.within c there).1))
 
-  pub holds_all : IsCopy (task_op t) → (env : Elements) (new : Shown) → ((coord : List ℕ) → Contains (made_chunks t) coord → HoldsPart t env new coord) → HoldsMade t env new
+  pub holds_all : IsCopy (task_op t) → (env : Elements) (new : Shown) → ((coord : List ℕ) → Contains (region_chunks t) coord → HoldsPart t env new coord) → HoldsMade t env new
   holds_all is env new each c there =
       let (only, of_made) = made_cell is c there in
       let (bytes, value, held) = each c.coord of_made in (
@@ -188,16 +188,16 @@ module _ (t : TaskView) (s : Sound t.plan) where
         subst (λ (x : List ℕ). Holds new.held x bytes) (ap (λ (b : ℕ). key_of t.plan.arrays (cell b c.coord)) (sym only)) held,
       )
 
-  pub got_all : IsCopy (task_op t) → (K : List ℕ → Type 0) → ((coord : List ℕ) → Contains (made_chunks t) coord → K (key_at (made_info t) coord)) → MayReadMade t K
+  pub got_all : IsCopy (task_op t) → (K : List ℕ → Type 0) → ((coord : List ℕ) → Contains (region_chunks t) coord → K (key_at (made_info t) coord)) → MayReadMade t K
   got_all is K each c there =
       let (only, of_made) = made_cell is c there in
       subst K (ap (λ (b : ℕ). key_of t.plan.arrays (cell b c.coord)) (sym only)) (each c.coord of_made)
 
-  pub no_writes : (buf : List ℕ) (left : ℕ) (shown : Shown) → left ≡ length (made_chunks t) → WritesSoFar t buf left shown shown
+  pub no_writes : (buf : List ℕ) (left : ℕ) (shown : Shown) → left ≡ length (region_chunks t) → WritesSoFar t buf left shown shown
   no_writes buf left shown all = (0, omega (arith, all), omega arith, λ start has. steps_same (ChangeBy t start) shown)
 
   pub one_write : (buf : List ℕ) (left : ℕ) (old mid new : Shown) → WritesSoFar t buf (suc left) old mid → Made 1 mid.calls new.calls
-      → ((start : Shown) → HasEachPart t (CarriesPart t start) (made_chunks t) buf → Steps (ChangeBy t start) 0 1 mid new) → WritesSoFar t buf left old new
+      → ((start : Shown) → HasEachPart t (CarriesPart t start) (region_chunks t) buf → Steps (ChangeBy t start) 0 1 mid new) → WritesSoFar t buf left old new
   one_write buf left old mid new (calls, count, made_so_far, steps) one step = (
     calls + 1,
     omega (arith, count),
@@ -205,19 +205,19 @@ module _ (t : TaskView) (s : Sound t.plan) where
     λ start has. steps_then (steps start has) (step start has),
   )
 
-  pub writes_most : (buf : List ℕ) (left : ℕ) (old new : Shown) (start : Shown) → WritesSoFar t buf left old new → HasEachPart t (CarriesPart t start) (made_chunks t) buf
-      → Steps (ChangeBy t start) 0 (length (made_chunks t)) old new
+  pub writes_most : (buf : List ℕ) (left : ℕ) (old new : Shown) (start : Shown) → WritesSoFar t buf left old new → HasEachPart t (CarriesPart t start) (region_chunks t) buf
+      → Steps (ChangeBy t start) 0 (length (region_chunks t)) old new
   writes_most buf left old new start (calls, count, made_so_far, steps) has = steps_wider (λ key value own. own) (omega arith) (omega (arith, count)) (steps start has)
 
-  pub writes_made : (buf : List ℕ) (old new : Shown) → WritesSoFar t buf 0 old new → Made (length (made_chunks t)) old.calls new.calls
-  writes_made buf old new (calls, count, made_so_far, steps) = let all : calls ≡ length (made_chunks t) = omega (arith, count) in subst (λ (n : ℕ). Made n old.calls new.calls) all made_so_far
+  pub writes_made : (buf : List ℕ) (old new : Shown) → WritesSoFar t buf 0 old new → Made (length (region_chunks t)) old.calls new.calls
+  writes_made buf old new (calls, count, made_so_far, steps) = let all : calls ≡ length (region_chunks t) = omega (arith, count) in subst (λ (n : ℕ). Made n old.calls new.calls) all made_so_far
 
   -- the chunks that the task writes are those of the parts
-  pub written_calls : IsCopy (task_op t) → calls_to_write t ≡ length (made_chunks t)
+  pub written_calls : IsCopy (task_op t) → calls_to_write t ≡ length (region_chunks t)
   written_calls is =
       let copy = of_copy t.plan t.op (task_op t) t.number (fit_of t.plan s t.op t.operation) is in
       only_calls t.plan.arrays (task_op t) t.number copy.writes
-      ∙ length-map (made_chunks t) (cell (made_number t))
+      ∙ length-map (region_chunks t) (cell (made_number t))
 
   pub written_tally : (weight : List ℕ → ℕ) → IsCopy (task_op t) → region_tally weight (made_info t) (own_lo t) (own_hi t) ≡ tally_to_write weight t
   written_tally weight is =
@@ -261,7 +261,7 @@ module _ (t : TaskView) (s : Sound t.plan) where
       ∙ ap (λ (x : List ℕ). product (differences x (chunk_lo i.layout.grid.chunk coord)) * size_of i.layout.dtype) high
       ∙ ap (λ (j : ArrayInfo). product (differences (chunk_hi j.layout.grid.shape j.layout.grid.chunk coord) (chunk_lo j.layout.grid.chunk coord)) * size_of j.layout.dtype) e
 
-  pub all_here : (i : ArrayInfo) (lo hi : List ℕ) → i ≡ made_info t → lo ≡ own_lo t → hi ≡ own_hi t → covering i.layout.grid.chunk lo hi ≡ made_chunks t
+  pub all_here : (i : ArrayInfo) (lo hi : List ℕ) → i ≡ made_info t → lo ≡ own_lo t → hi ≡ own_hi t → covering i.layout.grid.chunk lo hi ≡ region_chunks t
   all_here i lo hi e low high =
       ap (λ (j : ArrayInfo). covering j.layout.grid.chunk lo hi) e
       ∙ ap (λ (x : List ℕ). covering (made_info t).layout.grid.chunk x hi) low

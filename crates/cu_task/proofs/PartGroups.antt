@@ -19,7 +19,7 @@ use Rattle.cu_reduce.specs.Numbers.{HasNumber}
 use Rattle.cu_reduce.proofs.Ranges.{map-map, map_ranges}
 use Rattle.cu_shape.specs.Index.{product, place_of, index_at, sums, differences, IsInside}
 use Rattle.cu_shape.proofs.Places.{inside-length, place-below}
-use Rattle.cu_task.specs.Merges.{place_by_parts, without}
+use Rattle.cu_task.specs.Merges.{place_by_parts, without_axis}
 use Rattle.cu_task.proofs.PartPlaces.{inside_without, place_without, product_without}
 
 -- ---- axes that are kept
@@ -133,7 +133,7 @@ one_group (suc d) =
 record AreCountsAlong (k : ℕ) (counts ds : List ℕ) : Type 0 where
   rank : length counts ≡ length ds
   one : get_or counts k 0 ≡ 1
-  others : without k counts ≡ without k ds
+  others : without_axis k counts ≡ without_axis k ds
 
 kept_counts : (ds : List ℕ) → group_counts (kept_groups ds) ds ≡ ds
 kept_counts [] = refl
@@ -174,7 +174,7 @@ elements_along axis first (suc k) (d ∷ ds) at b has =
 
 -- an array with an axis for the parts and one for the results
 abbrev pub rows_of : ℕ → List ℕ → List ℕ
-rows_of axis ds = get_or ds axis 0 ∷ product (without axis ds) ∷ []
+rows_of axis ds = get_or ds axis 0 ∷ product (without_axis axis ds) ∷ []
 
 abbrev pub axis_groups : ℕ → List ℕ → Groups
 axis_groups axis ds = groups_of (λ d. d == axis) ds
@@ -191,15 +191,15 @@ module _ (axis : ℕ) (ds : List ℕ) (b : axis < length ds) where
   along : AreCountsAlong axis counts ds
   along = counts_along axis 0 axis ds (omega arith) b
 
-  pub results_count : product counts ≡ product (without axis ds)
+  pub results_count : product counts ≡ product (without_axis axis ds)
   results_count =
       let rank = along.rank in
-      product_without axis counts (omega (arith, rank, b)) ∙ rw (along.one, along.others) (let s : 1 * product (without axis ds) ≡ product (without axis ds) = omega arith in s)
+      product_without axis counts (omega (arith, rank, b)) ∙ rw (along.one, along.others) (let s : 1 * product (without_axis axis ds) ≡ product (without_axis axis ds) = omega arith in s)
 
   pub rows_count : product (rows_of axis ds) ≡ product ds
-  rows_count = let all = product_without axis ds b in let one : product (without axis ds) * 1 ≡ product (without axis ds) = omega arith in rw one (sym all)
+  rows_count = let all = product_without axis ds b in let one : product (without_axis axis ds) * 1 ≡ product (without_axis axis ds) = omega arith in rw one (sym all)
 
-  pub rows_results : product (group_counts (axis_groups 0 (rows_of axis ds)) (rows_of axis ds)) ≡ product (without axis ds)
+  pub rows_results : product (group_counts (axis_groups 0 (rows_of axis ds)) (rows_of axis ds)) ≡ product (without_axis axis ds)
   rows_results = rw (one_group (get_or ds axis 0)) (omega arith)
 
   pub rows_enough : (kind : FoldKind) → HasEnough kind (axis_groups axis ds) ds → HasEnough kind (axis_groups 0 (rows_of axis ds)) (rows_of axis ds)
@@ -210,7 +210,7 @@ module _ (axis : ℕ) (ds : List ℕ) (b : axis < length ds) where
   rows_enough Any e = tt
   rows_enough Every e = tt
 
-  without_set : (axis : ℕ) (is : List ℕ) (p : ℕ) → without axis (set is axis p) ≡ without axis is
+  without_set : (axis : ℕ) (is : List ℕ) (p : ℕ) → without_axis axis (set is axis p) ≡ without_axis axis is
   without_set axis [] p = refl
   without_set zero (i ∷ is) p = refl
   without_set (suc axis) (i ∷ is) p = ap (λ ns. i ∷ ns) (without_set axis is p)
@@ -219,18 +219,18 @@ module _ (axis : ℕ) (ds : List ℕ) (b : axis < length ds) where
       → HasMerged kind acc axis ds (λ i. element_at Little acc input (place_by_parts axis ds i)) output
   rows_merged kind acc input output has x inside =
       let parts : ℕ = get_or ds axis 0 in
-      let results : ℕ = product (without axis ds) in
-      let j : ℕ = place_of (without axis ds) (without axis x) in
+      let results : ℕ = product (without_axis axis ds) in
+      let j : ℕ = place_of (without_axis axis ds) (without_axis axis x) in
       let long : length x ≡ length ds = inside-length counts x inside ∙ along.rank in
       let low : get_or x axis 0 < get_or counts axis 0 = inside-at counts x axis inside (let r = along.rank in omega (arith, r, b)) in
       let none : get_or x axis 0 ≡ 0 = (let one = along.one in omega (arith, low, one)) in
-      let row : IsInside (without axis ds) (without axis x) = subst (λ (ns : List ℕ). IsInside ns (without axis x)) along.others (inside_without axis counts x inside) in
-      let below = place-below (without axis ds) (without axis x) row in
+      let row : IsInside (without_axis axis ds) (without_axis axis x) = subst (λ (ns : List ℕ). IsInside ns (without_axis axis x)) along.others (inside_without axis counts x inside) in
+      let below = place-below (without_axis axis ds) (without_axis axis x) row in
       let one_part = one_group parts in
       let first : 0 < max 1 (div_ceil parts parts) = omega (arith, one_part) in
       let own = has (0 ∷ j ∷ []) (first, (below, tt)) in
       let own_place : place_of (group_counts (axis_groups 0 (rows_of axis ds)) (rows_of axis ds)) (0 ∷ j ∷ []) ≡ j = omega arith in
-      let place : place_of counts x ≡ j = place_without axis counts x (long ∙ sym along.rank) (let r = along.rank in omega (arith, r, b)) along.one none ∙ ap (λ (ns : List ℕ). place_of ns (without axis x)) along.others in
+      let place : place_of counts x ≡ j = place_without axis counts x (long ∙ sym along.rank) (let r = along.rank in omega (arith, r, b)) along.one none ∙ ap (λ (ns : List ℕ). place_of ns (without_axis axis x)) along.others in
       let element : ℕ → ℤ = λ n. element_at Little acc input n in
       let rows : map (λ i. element (place_of (rows_of axis ds) i)) (group_indices (axis_groups 0 (rows_of axis ds)) (rows_of axis ds) (0 ∷ j ∷ [])) ≡ map (λ p. element (p * results + j)) (range_with_len 0 parts)
       = ap (map (λ i. element (place_of (rows_of axis ds) i))) (indices_along 0 (rows_of axis ds) (0 ∷ j ∷ []) refl (omega arith) refl)

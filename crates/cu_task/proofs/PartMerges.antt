@@ -36,7 +36,7 @@ use Rattle.cu_shape.proofs.Axes.{get_or-axis_by_axis}
 use Rattle.cu_codec.specs.Parts.{place_within}
 use Rattle.cu_task.specs.Calls.{chunk_calls, chunk_tally}
 use Rattle.cu_task.specs.Inputs.{room_of_walks, HasRegion, IsMergeOf}
-use Rattle.cu_task.specs.Merges.{place_by_parts, without, StandsByParts, MergesParts}
+use Rattle.cu_task.specs.Merges.{place_by_parts, without_axis, StandsByParts, MergesParts}
 use Rattle.cu_task.specs.OfTask.{calls_to_read, cell_weight, tally_to_read, weight_of_walk}
 use Rattle.cu_task.specs.Task.{IsComputing}
 use Rattle.cu_task.specs.declared.merges.PartMerge.{PartMerge}
@@ -94,7 +94,7 @@ pub record TaskMerge (p : PlanView) (op : Op) (task : ℕ) (m : PartMerge) (w : 
   pub along : m.axis < length (sizes_of w)
   pub enough : HasEnough m.kind (axis_groups m.axis (sizes_of w)) (sizes_of w)
   pub input : room_of_walks p.arrays (input_walks p.arrays op task) ≡ product (sizes_of w) * size_of (type_at p.arrays m.out)
-  pub output : product (differences (task_hi p.arrays op task) (task_lo p.arrays op task)) * size_of (type_at p.arrays (target_of op)) ≡ product (without m.axis (sizes_of w)) * size_of (type_at p.arrays m.out)
+  pub output : product (differences (task_hi p.arrays op task) (task_lo p.arrays op task)) * size_of (type_at p.arrays (target_of op)) ≡ product (without_axis m.axis (sizes_of w)) * size_of (type_at p.arrays m.out)
   pub values : (at : Elements) (input output : List ℕ) → StandsByParts (type_at p.arrays w.array) (at w.array) m.axis w.region input
       → HasMerged m.kind (type_at p.arrays m.out) m.axis (sizes_of w) (part_element (type_at p.arrays m.out) m.axis (sizes_of w) input) output
       → HasRegion (type_at p.arrays (target_of op)) (rule op p.arrays at (target_of op)) (task_lo p.arrays op task) (task_hi p.arrays op task) output
@@ -145,7 +145,7 @@ module _ (p : PlanView) (s : Sound p) (k task : ℕ) (kind : FoldKind) (axis out
       let along = goes_along.along in
       omega (arith, rank, along)
 
-  results : product (without axis (sizes_of own_walk)) ≡ product (differences hi lo)
+  results : product (without_axis axis (sizes_of own_walk)) ≡ product (differences hi lo)
   results = sym (results_count axis (sizes_of own_walk) axis_in) ∙ count_is p (λ d. d == axis) group_sizes m.source out task parts h
 
   input_long : room_of_walks p.arrays (own_walk ∷ []) ≡ product (sizes_of own_walk) * size_of (type_at p.arrays out)
@@ -219,6 +219,6 @@ pub times_over : (n k : ℕ) → 0 < k → n * k / k ≡ n
 times_over n k some = let none : n * k ≡ n * k + 0 = omega arith in ap (λ m. m / k) none ∙ div-mul-add n k 0 some
 
 pub rows_known : (axis parts results : ℕ) (w : Walk) → length w.region.hi ≡ length w.region.lo → axis < length w.region.lo → parts ≡ get_or w.region.hi axis 0 - get_or w.region.lo axis 0
-    → results ≡ product (without axis (sizes_of w)) → parts ∷ results ∷ [] ≡ rows_of axis (sizes_of w)
+    → results ≡ product (without_axis axis (sizes_of w)) → parts ∷ results ∷ [] ≡ rows_of axis (sizes_of w)
 rows_known axis parts results w e along first second =
-    rw (first, second) (ap (λ (n : ℕ). n ∷ product (without axis (sizes_of w)) ∷ []) (sym (get_or-axis_by_axis (λ i j. i - j) w.region.hi w.region.lo axis (omega (arith, e, along)) along)))
+    rw (first, second) (ap (λ (n : ℕ). n ∷ product (without_axis axis (sizes_of w)) ∷ []) (sym (get_or-axis_by_axis (λ i j. i - j) w.region.hi w.region.lo axis (omega (arith, e, along)) along)))

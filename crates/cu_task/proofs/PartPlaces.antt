@@ -17,46 +17,46 @@ use Rattle.cu_shape.specs.Index.{product, place_of, differences, IsInside}
 use Rattle.cu_shape.proofs.Axes.{get_or-axis_by_axis, length-axis_by_axis}
 use Rattle.cu_shape.proofs.Places.{inside-length, place-below}
 use Rattle.cu_task.specs.Inputs.{HasRegion}
-use Rattle.cu_task.specs.Merges.{place_by_parts, without, StandsByParts}
+use Rattle.cu_task.specs.Merges.{place_by_parts, without_axis, StandsByParts}
 use Rattle.cu_task.proofs.InputReads.{front_part}
 
 -- ---- lists without what they have on an axis
 
-pub product_without : (axis : ℕ) (ds : List ℕ) → axis < length ds → product ds ≡ get_or ds axis 0 * product (without axis ds)
+pub product_without : (axis : ℕ) (ds : List ℕ) → axis < length ds → product ds ≡ get_or ds axis 0 * product (without_axis axis ds)
 product_without axis [] b = absurd (omega arith)
 product_without zero (d ∷ ds) b = refl
 product_without (suc axis) (d ∷ ds) b =
     let rest = product_without axis ds (omega (arith, b)) in
     let turned : (a b c : ℕ) → a * (b * c) ≡ b * (a * c) = turn in
-    ap (λ n. d * n) rest ∙ turned d (get_or ds axis 0) (product (without axis ds))
+    ap (λ n. d * n) rest ∙ turned d (get_or ds axis 0) (product (without_axis axis ds))
   where
     turn : (a b c : ℕ) → a * (b * c) ≡ b * (a * c)
     turn a b c = omega arith
 
-pub inside_without : (axis : ℕ) (ds is : List ℕ) → IsInside ds is → IsInside (without axis ds) (without axis is)
+pub inside_without : (axis : ℕ) (ds is : List ℕ) → IsInside ds is → IsInside (without_axis axis ds) (without_axis axis is)
 inside_without axis [] [] w = tt
 inside_without zero (d ∷ ds) (i ∷ is) w = w.1
 inside_without (suc axis) (d ∷ ds) (i ∷ is) w = (w.0, inside_without axis ds is w.1)
 inside_without axis ds is w = absurd assumption
 
 -- an axis with one index counts for nothing
-pub place_without : (axis : ℕ) (ds is : List ℕ) → length is ≡ length ds → axis < length ds → get_or ds axis 0 ≡ 1 → get_or is axis 0 ≡ 0 → place_of ds is ≡ place_of (without axis ds) (without axis is)
+pub place_without : (axis : ℕ) (ds is : List ℕ) → length is ≡ length ds → axis < length ds → get_or ds axis 0 ≡ 1 → get_or is axis 0 ≡ 0 → place_of ds is ≡ place_of (without_axis axis ds) (without_axis axis is)
 place_without axis [] is e b one none = absurd (omega arith)
 place_without axis (d ∷ ds) [] e b one none = absurd (omega arith)
 place_without zero (d ∷ ds) (i ∷ is) e b one none = rw none (omega arith)
 place_without (suc axis) (d ∷ ds) (i ∷ is) e b one none =
     let rest = place_without axis ds is (omega (arith, e)) (omega (arith, b)) one none in
-    let same : product ds ≡ product (without axis ds) = product_without axis ds (omega (arith, b)) ∙ rw one (omega arith) in
+    let same : product ds ≡ product (without_axis axis ds) = product_without axis ds (omega (arith, b)) ∙ rw one (omega arith) in
     rw (same, rest) refl
 
-pub without_end : (axis at : ℕ) (ls hs : List ℕ) → without axis (differences (set hs axis at) ls) ≡ without axis (differences hs ls)
+pub without_end : (axis at : ℕ) (ls hs : List ℕ) → without_axis axis (differences (set hs axis at) ls) ≡ without_axis axis (differences hs ls)
 without_end axis at ls [] = refl
 without_end zero at [] (h ∷ hs) = refl
 without_end (suc axis) at [] (h ∷ hs) = refl
 without_end zero at (l ∷ ls) (h ∷ hs) = refl
 without_end (suc axis) at (l ∷ ls) (h ∷ hs) = ap (λ ds. (h - l) ∷ ds) (without_end axis at ls hs)
 
-pub without_start : (axis at : ℕ) (ls hs : List ℕ) → without axis (differences hs (set ls axis at)) ≡ without axis (differences hs ls)
+pub without_start : (axis at : ℕ) (ls hs : List ℕ) → without_axis axis (differences hs (set ls axis at)) ≡ without_axis axis (differences hs ls)
 without_start axis at [] hs = refl
 without_start zero at (l ∷ ls) [] = refl
 without_start (suc axis) at (l ∷ ls) [] = refl
@@ -80,11 +80,11 @@ within_after axis at ls hs is w b = absurd assumption
 
 pub parts_below : (axis : ℕ) (ds is : List ℕ) → IsInside ds is → axis < length ds → place_by_parts axis ds is < product ds
 parts_below axis ds is inside b =
-    let row = place-below (without axis ds) (without axis is) (inside_without axis ds is inside) in
+    let row = place-below (without_axis axis ds) (without_axis axis is) (inside_without axis ds is inside) in
     let all = product_without axis ds b in
     let own = low axis ds is inside b in
-    let most : suc (get_or is axis 0) * product (without axis ds) ≤ get_or ds axis 0 * product (without axis ds)
-    = mul-le _ (product (without axis ds)) _ (product (without axis ds)) own (omega arith) in
+    let most : suc (get_or is axis 0) * product (without_axis axis ds) ≤ get_or ds axis 0 * product (without_axis axis ds)
+    = mul-le _ (product (without_axis axis ds)) _ (product (without_axis axis ds)) own (omega arith) in
     omega (arith, row, all, most)
   where
     low : (axis : ℕ) (ds is : List ℕ) → IsInside ds is → axis < length ds → suc (get_or is axis 0) ≤ get_or ds axis 0
@@ -127,7 +127,7 @@ module _ (t : Dtype) (element : List ℕ → Option ℤ) (axis : ℕ) (region : 
       let none : get_or (differences idx region.lo) axis 0 ≡ 0 = (let i = index_is idx w in omega (arith, i, few, low, high)) in
       let long = inside-length sizes (differences idx region.lo) (within_sizes region.lo region.hi idx w) in
       let same = place_without axis sizes (differences idx region.lo) long (let r = rank_is in omega (arith, r, along)) one none in
-      let at : place_of sizes (differences idx region.lo) ≡ place_by_parts axis sizes (differences idx region.lo) = rw none (same ∙ (let e : place_of (without axis sizes) (without axis (differences idx region.lo)) ≡ 0 * product (without axis sizes) + place_of (without axis sizes) (without axis (differences idx region.lo)) = omega arith in e)) in
+      let at : place_of sizes (differences idx region.lo) ≡ place_by_parts axis sizes (differences idx region.lo) = rw none (same ∙ (let e : place_of (without_axis axis sizes) (without_axis axis (differences idx region.lo)) ≡ 0 * product (without_axis axis sizes) + place_of (without_axis axis sizes) (without_axis axis (differences idx region.lo)) = omega arith in e)) in
       has idx w ∙ ap Some (element_at_same Little t buf buf _ _ (ap (part_at (size_of t) buf) at))
 
   -- the parts of two regions, one behind the other on the axis
@@ -139,10 +139,10 @@ module _ (t : Dtype) (element : List ℕ → Option ℤ) (axis : ℕ) (region : 
     abbrev back : Region
     back = record { lo = set region.lo axis at; hi = region.hi }
 
-    others_same : without axis (differences front.hi front.lo) ≡ without axis sizes
+    others_same : without_axis axis (differences front.hi front.lo) ≡ without_axis axis sizes
     others_same = without_end axis at region.lo region.hi
 
-    front_count : product (differences front.hi front.lo) ≡ (at - get_or region.lo axis 0) * product (without axis sizes)
+    front_count : product (differences front.hi front.lo) ≡ (at - get_or region.lo axis 0) * product (without_axis axis sizes)
     front_count =
         let same_rank : length (set region.hi axis at) ≡ length region.hi = length-set region.hi axis at in
         let rank : length (differences front.hi front.lo) ≡ length region.lo = length-axis_by_axis (λ i j. i - j) front.hi region.lo (same_rank ∙ e) ∙ same_rank ∙ e in
@@ -169,17 +169,17 @@ module _ (t : Dtype) (element : List ℕ → Option ℤ) (axis : ℕ) (region : 
               let q = place_by_parts axis (differences back.hi back.lo) (differences idx back.lo) in
               let known = within_of region.lo region.hi idx w in
               let ranks = known.lo_rank in
-              let sizes_same : without axis (differences back.hi back.lo) ≡ without axis sizes = without_start axis at region.lo region.hi in
-              let row_same : without axis (differences idx back.lo) ≡ without axis (differences idx region.lo) = without_start axis at region.lo idx in
+              let sizes_same : without_axis axis (differences back.hi back.lo) ≡ without_axis axis sizes = without_start axis at region.lo region.hi in
+              let row_same : without_axis axis (differences idx back.lo) ≡ without_axis axis (differences idx region.lo) = without_start axis at region.lo idx in
               let set_rank : length (set region.lo axis at) ≡ length region.lo = length-set region.lo axis at in
               let set_is : get_or back.lo axis 0 ≡ at = get_or-set_same region.lo axis at 0 along in
               let own_index : get_or (differences idx back.lo) axis 0 ≡ get_or idx axis 0 - at
               = get_or-axis_by_axis (λ i j. i - j) idx back.lo axis (omega (arith, ranks, along)) (omega (arith, set_rank, along)) ∙ ap (λ n. get_or idx axis 0 - n) set_is in
-              let own_place : q ≡ (get_or idx axis 0 - at) * product (without axis sizes) + place_of (without axis sizes) (without axis (differences idx region.lo)) = rw (own_index, sizes_same, row_same) refl in
+              let own_place : q ≡ (get_or idx axis 0 - at) * product (without_axis axis sizes) + place_of (without_axis axis sizes) (without_axis axis (differences idx region.lo)) = rw (own_index, sizes_same, row_same) refl in
               let index = index_is idx w in
-              let place : place_by_parts axis sizes (differences idx region.lo) ≡ (get_or idx axis 0 - get_or region.lo axis 0) * product (without axis sizes) + place_of (without axis sizes) (without axis (differences idx region.lo)) = rw index refl in
-              let split : (get_or idx axis 0 - get_or region.lo axis 0) * product (without axis sizes) ≡ (at - get_or region.lo axis 0) * product (without axis sizes) + (get_or idx axis 0 - at) * product (without axis sizes)
-              = parted (get_or idx axis 0 - get_or region.lo axis 0) (at - get_or region.lo axis 0) (get_or idx axis 0 - at) (product (without axis sizes)) (omega (arith, low, after)) in
+              let place : place_by_parts axis sizes (differences idx region.lo) ≡ (get_or idx axis 0 - get_or region.lo axis 0) * product (without_axis axis sizes) + place_of (without_axis axis sizes) (without_axis axis (differences idx region.lo)) = rw index refl in
+              let split : (get_or idx axis 0 - get_or region.lo axis 0) * product (without_axis axis sizes) ≡ (at - get_or region.lo axis 0) * product (without_axis axis sizes) + (get_or idx axis 0 - at) * product (without_axis axis sizes)
+              = parted (get_or idx axis 0 - get_or region.lo axis 0) (at - get_or region.lo axis 0) (get_or idx axis 0 - at) (product (without_axis axis sizes)) (omega (arith, low, after)) in
               let m = product (differences front.hi front.lo) in
               let count = front_count in
               let same : place_by_parts axis sizes (differences idx region.lo) ≡ m + q = omega (arith, own_place, place, split, count) in

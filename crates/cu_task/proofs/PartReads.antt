@@ -18,7 +18,7 @@ use Rattle.cu_store.specs.Steps.{Shown}
 use Rattle.cu_store.specs.declared.faults.TaskFault.{TaskFault}
 use Rattle.cu_store.specs.declared.faults.TaskFault.TheVariants.{BadChunk, NoMemory, Store}
 use Rattle.cu_task.specs.Inputs.{walk_room, IsWalkFault, IsWalkKey}
-use Rattle.cu_task.specs.Merges.{without, HasWalkParts, StandsApart}
+use Rattle.cu_task.specs.Merges.{without_axis, HasWalkParts, StandsApart}
 use Rattle.cu_task.proofs.Inside.{ones}
 use Rattle.cu_task.proofs.PartCells.{back_cell, back_over, cells_parted, front_cell, front_over, walk_after, walk_before, IsPartedAt}
 use Rattle.cu_task.proofs.PartPlaces.{parts_joined, product_without, without_end, without_start}
@@ -64,15 +64,15 @@ module _ (t : TaskView) (w : Walk) (axis at : ℕ) (p : IsPartedAt t.plan.arrays
   start_is = get_or-set_same w.region.lo axis at 0 along
 
   -- the sizes of a region: on the axis times on all others
-  count_of : (ls hs : List ℕ) → length hs ≡ length ls → axis < length ls → product (differences hs ls) ≡ (get_or hs axis 0 - get_or ls axis 0) * product (without axis (differences hs ls))
+  count_of : (ls hs : List ℕ) → length hs ≡ length ls → axis < length ls → product (differences hs ls) ≡ (get_or hs axis 0 - get_or ls axis 0) * product (without_axis axis (differences hs ls))
   count_of ls hs e b =
       let rank = length-axis_by_axis (λ i j. i - j) hs ls e ∙ e in
       product_without axis (differences hs ls) (omega (arith, rank, b))
-      ∙ ap (λ n. n * product (without axis (differences hs ls))) (get_or-axis_by_axis (λ i j. i - j) hs ls axis (omega (arith, e, b)) b)
+      ∙ ap (λ n. n * product (without_axis axis (differences hs ls))) (get_or-axis_by_axis (λ i j. i - j) hs ls axis (omega (arith, e, b)) b)
 
   counts : product (differences w.region.hi w.region.lo) ≡ product (differences front.region.hi front.region.lo) + product (differences back.region.hi back.region.lo)
   counts =
-      let n = product (without axis (differences w.region.hi w.region.lo)) in
+      let n = product (without_axis axis (differences w.region.hi w.region.lo)) in
       let all = count_of w.region.lo w.region.hi same_rank along in
       let first : product (differences front.region.hi front.region.lo) ≡ (at - get_or w.region.lo axis 0) * n
       = rw (count_of front.region.lo front.region.hi (length-set w.region.hi axis at ∙ same_rank) along, end_is, without_end axis at w.region.lo w.region.hi) refl in

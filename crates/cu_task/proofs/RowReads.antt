@@ -22,7 +22,7 @@ use Rattle.cu_view_box.specs.declared.block.Block.{Block}
 use Rattle.cu_view_box.proofs.Lined.{spelled_own}
 use Rattle.cu_op.specs.Arrays.{type_at}
 use Rattle.cu_task.specs.Inputs.{last_bytes}
-use Rattle.cu_task.specs.Straight.{behind_first, byte_place, AreSameBehind, HasRows, StandsFrom}
+use Rattle.cu_task.specs.Straight.{behind_first, byte_place, AreSameBehind, HasChunkRows, StandsFrom}
 use Rattle.cu_task.specs.ViewJobs.{buffer_in, buffer_room, view_task_of, HaveComeFrom, IsFront, IsSourceChunk}
 use Rattle.cu_task.specs.Views.{source_in, IsSourceKey, IsKnown}
 use Rattle.cu_task.specs.declared.views.SourceChunk.{SourceChunk}
@@ -151,7 +151,7 @@ chunk_product [] some = absurd (omega (arith, some))
 chunk_product (n ∷ ns) some = refl
 
 module _ (chunk : SourceChunk) (h : IsSourceChunk chunk) where
-  pub stands_from : HasRows chunk → (before at row : ℕ) → row ≡ product (behind_first (source_in (view_task_of chunk.job.now) chunk.source).layout.grid.chunk) * size_of (source_in (view_task_of chunk.job.now) chunk.source).layout.dtype
+  pub stands_from : HasChunkRows chunk → (before at row : ℕ) → row ≡ product (behind_first (source_in (view_task_of chunk.job.now) chunk.source).layout.grid.chunk) * size_of (source_in (view_task_of chunk.job.now) chunk.source).layout.dtype
       → at + get_or chunk.needed.lo 0 0 * row ≡ before + get_or (products chunk.coord (source_in (view_task_of chunk.job.now) chunk.source).layout.grid.chunk) 0 0 * row → StandsFrom chunk before at
   stands_from rows before at row long here =
       let v = view_task_of chunk.job.now in

@@ -14,7 +14,7 @@ use Rattle.cu_op.specs.Cells.{task_grid, task_lo, task_hi}
 use Rattle.cu_op.specs.Chunks.{walk, whole_walk}
 use Rattle.cu_op.specs.Elements.{Elements}
 use Rattle.cu_op.specs.Kind.Pull.{origin_at, PullFits, pulled}
-use Rattle.cu_op.specs.Operation.{form_of, kernel_of, reads_of, writes_of, target_of, compared_array, value_array, ReadsByChunk}
+use Rattle.cu_op.specs.Operation.{route_of, kernel_of, reads_of, writes_of, target_of, compared_array, value_array, ReadsByChunk}
 use Rattle.cu_op.specs.PlanView.{PlanView}
 use Rattle.cu_op.specs.Projection.{input_room, instruction_count, output_room}
 use Rattle.cu_op.specs.Value.{rule}
@@ -28,7 +28,7 @@ use Rattle.cu_op.specs.declared.walks.Walk.{Walk}
 use Rattle.cu_origin.specs.declared.pull.Pull.{Pull as View}
 use Rattle.cu_shape.specs.Index.{product, differences}
 use Rattle.cu_task.specs.Calls.{calls_by, tally_by, view_task, IsPullOf, MakesSureCalls}
-use Rattle.cu_task.specs.Inputs.{map_code, IsMap}
+use Rattle.cu_task.specs.Inputs.{map_code, HasKernel}
 use Rattle.cu_task.specs.Task.{compared_by, kept_by, kept_room, room_beside, IsComputing, IsCopy, IsPlaceSearch, IsSomeArray}
 use Rattle.cu_task.specs.Views.{is_exact, view_calls, view_tally}
 
@@ -51,7 +51,7 @@ pub record OfMap (op : Op) : Type 0 where
   pub computes : IsComputing op
   pub stores : value_array op ≡ None
 
-pub of_map : (op : Op) → IsMap op → OfMap op
+pub of_map : (op : Op) → HasKernel op → OfMap op
 of_map op is =
     let code = has_steps (kernel_of op) is in
     let same = map_by_kernel op (map_code op) code in
@@ -210,7 +210,7 @@ compared_room arrays n (Some array) = n * size_of (type_at arrays array)
 -- the elements of a chunk of the tasks' grid, the values beside them, and the input regions, where they are kept, fit what an operation is lent; a
 -- copy has its elements in the room of its input regions
 pub lent_rooms : (arrays : List ArrayInfo) (k : ℕ) (op : Op) → Fit arrays k op
-    → compared_room arrays (product (task_grid arrays op).chunk) (compared_array op) + product (task_grid arrays op).chunk * size_of (type_at arrays (target_of op)) + kept_by (form_of op) (input_room arrays op)
+    → compared_room arrays (product (task_grid arrays op).chunk) (compared_array op) + product (task_grid arrays op).chunk * size_of (type_at arrays (target_of op)) + kept_by (route_of op) (input_room arrays op)
     ≤ input_room arrays op + output_room arrays op
 lent_rooms arrays k (Copy region source out) fit =
     let same : product region * size_of (type_at arrays out) ≡ product region * size_of (type_at arrays source) = ap (λ (t : Dtype). product region * size_of t) (sym fit.2.types) in

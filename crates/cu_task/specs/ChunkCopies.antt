@@ -41,8 +41,8 @@ abbrev pub own_hi : TaskView → List ℕ
 own_hi t = task_hi t.plan.arrays (task_op t) t.number
 
 -- the array's chunks in the region, row-major, and the part of the region that a chunk is
-abbrev pub made_chunks : TaskView → List (List ℕ)
-made_chunks t = covering (made_info t).layout.grid.chunk (own_lo t) (own_hi t)
+abbrev pub region_chunks : TaskView → List (List ℕ)
+region_chunks t = covering (made_info t).layout.grid.chunk (own_lo t) (own_hi t)
 
 abbrev pub part_lo : TaskView → List ℕ → List ℕ
 part_lo t coord = chunk_lo (made_info t).layout.grid.chunk coord
@@ -106,7 +106,7 @@ pub record TakesChunk (t : TaskView) (w : Walk) (coord : List ℕ) (held : Optio
   pub long : length bytes ≡ bytes_of (array_at t.plan.arrays w.array).layout
   pub has : HasChunk (array_at t.plan.arrays w.array) coord held bytes
   pub elements : AreElements (array_at t.plan.arrays w.array).layout.dtype bytes
-  pub taken : HavePartsTaken t (chunk_bytes_of t w coord bytes) (made_chunks t) old new
+  pub taken : HavePartsTaken t (chunk_bytes_of t w coord bytes) (region_chunks t) old new
 
 -- ---- what is written
 
@@ -123,7 +123,7 @@ pub record AllowsPart (t : TaskView) (coord own : List ℕ) (P : List ℕ → Li
 
 pub record AllowsParts (t : TaskView) (buf : List ℕ) (P : List ℕ → List ℕ → Type 0) : Type 0 where
   pub start : Shown
-  pub carries : HasEachPart t (CarriesPart t start) (made_chunks t) buf
+  pub carries : HasEachPart t (CarriesPart t start) (region_chunks t) buf
   pub changes : Allows (ChangeBy t start) P
 
 -- the chunk at this coordinate has a value and holds it

@@ -15,14 +15,14 @@ use Rattle.cu_task.specs.Inputs.{IsMergeOf}
 use Rattle.cu_task.specs.declared.merges.PartMerge.{PartMerge}
 
 -- what a list has on all axes but one
-abbrev pub without : ℕ → List ℕ → List ℕ
-without axis [] = []
-without zero (n ∷ ns) = ns
-without (suc axis) (n ∷ ns) = n ∷ without axis ns
+abbrev pub without_axis : ℕ → List ℕ → List ℕ
+without_axis axis [] = []
+without_axis zero (n ∷ ns) = ns
+without_axis (suc axis) (n ∷ ns) = n ∷ without_axis axis ns
 
 -- the place of an index in an array of these sizes whose elements at one index on an axis stand row-major behind those at the index before
 abbrev pub place_by_parts : ℕ → List ℕ → List ℕ → ℕ
-place_by_parts axis sizes i = slice_index i axis * product (without axis sizes) + place_of (without axis sizes) (without axis i)
+place_by_parts axis sizes i = slice_index i axis * product (without_axis axis sizes) + place_of (without_axis axis sizes) (without_axis axis i)
 
 -- a buffer has so the elements of a region
 abbrev pub StandsByParts : Dtype → (List ℕ → Option ℤ) → ℕ → Region → List ℕ → Type 0

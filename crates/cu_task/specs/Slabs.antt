@@ -20,7 +20,7 @@ use Rattle.cu_origin.specs.declared.provenance.Provenance.TheVariants.{From, Con
 use Rattle.cu_shape.specs.Index.{differences, place_of, product, remainders}
 use Rattle.cu_store.specs.Held.{Contents}
 use Rattle.cu_task.specs.Calls.{IsPullOf}
-use Rattle.cu_task.specs.Inputs.{map_code, walk_room, IsMap}
+use Rattle.cu_task.specs.Inputs.{map_code, walk_room, HasKernel}
 use Rattle.cu_task.specs.Inside.{StandsInside}
 use Rattle.cu_task.specs.OfTask.{held_inputs, made_bytes, walks_from, HasWalk}
 use Rattle.cu_task.specs.Straight.{behind_first}
@@ -37,7 +37,7 @@ use Rattle.cu_task.specs.declared.views.ViewJob.{ViewJob}
 
 -- the task is a map of two inputs
 pub record MapsTwo (t : TaskView) : Type 0 where
-  pub map : IsMap (task_op t)
+  pub map : HasKernel (task_op t)
   pub two : length (walks_from t 0) ≡ 2
 
 -- the inner one makes the input at this place where it is read

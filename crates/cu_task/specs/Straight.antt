@@ -50,7 +50,7 @@ behind_first (i ∷ is) = is
 behind_first [] = []
 
 -- A row of the region is a row of the source's chunk, or of its neighbours along the first axis: as long, of elements of the same type, and from the same index of the other axes on.
-pub record HasRows (chunk : SourceChunk) : Type 0 where
+pub record HasChunkRows (chunk : SourceChunk) : Type 0 where
   pub dtype : (source_of_chunk chunk).layout.dtype ≡ (made_in (view_of_chunk chunk)).layout.dtype
   pub shifted : IsShifted chunk chunk.needed.lo
   pub sizes : AreSameBehind (differences (view_of_chunk chunk).hi (view_of_chunk chunk).lo) (source_of_chunk chunk).layout.grid.chunk

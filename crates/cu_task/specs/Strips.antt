@@ -14,7 +14,7 @@ use Rattle.cu_op.specs.declared.kernel.Instr.TheVariants.{One}
 use Rattle.cu_op.specs.declared.operation.Op.{Op}
 use Rattle.cu_op.specs.declared.operation.Op.TheVariants.{Fold}
 use Rattle.cu_reduce.specs.Kinds.{Accumulates}
-use Rattle.cu_task.specs.Inputs.{IsMap}
+use Rattle.cu_task.specs.Inputs.{HasKernel}
 use Rattle.cu_task.specs.Inside.{StandsInside}
 use Rattle.cu_task.specs.OfTask.{IsMadeFrom}
 use Rattle.cu_task.specs.declared.strips.RegionMap.{RegionMap}
@@ -26,7 +26,7 @@ IsFold op = ⊥
 -- the outer task folds what the inner one, a map, makes where it is read
 pub record FoldsMap (outer inner : TaskView) : Type 0 where
   pub fold : IsFold (task_op outer)
-  pub map : IsMap (task_op inner)
+  pub map : HasKernel (task_op inner)
   pub inside : StandsInside outer (walk_at outer 0) inner
 
 -- what the outer task makes of what the inner one makes of these bytes

@@ -18,7 +18,7 @@ ghost use Rattle.cu_region.specs.Calls.{Made};
 ghost use Rattle.cu_region.specs.Reading.{bytes_of, key_at, IsChunkReadFault};
 ghost use Rattle.cu_region.specs.Writing.{AreElements, IsWriteFault};
 ghost use Rattle.cu_task.specs.Asks.{MayReadWalk};
-ghost use Rattle.cu_task.specs.ChunkCopies.{made_chunks, made_info, own_lo, own_hi};
+ghost use Rattle.cu_task.specs.ChunkCopies.{region_chunks, made_info, own_lo, own_hi};
 ghost use Rattle.cu_task.specs.ChunkCopies.{part_room, room_of_parts, AllowsPart, AllowsParts};
 ghost use Rattle.cu_task.specs.ChunkCopies.{chunk_bytes_of, ArePartsOfType, CarriesPart};
 ghost use Rattle.cu_task.specs.ChunkCopies.{HasEachPart, HavePartsTaken};
@@ -49,7 +49,7 @@ const LEAST_SHARED: usize = 4096;
 /// read have enough in common with each of them.
 pub(crate) fn is_copied_by_chunks(task: &PlanTask<'_>) -> bool
     ensures copy { OnTrue result (IsCopy (task_op task.now)) }
-    ensures room { OnTrue result (room_of_parts task.now (made_chunks task.now)
+    ensures room { OnTrue result (room_of_parts task.now (region_chunks task.now)
         ≤ made_bytes task.now) }
     ensures sound { Sound task.now.plan }
 {
@@ -92,7 +92,7 @@ fn target_array<'a>(task: &PlanTask<'a>) -> &'a ArrayInfo
 
 /// Whether the parts of a task's region have room in so many bytes.
 fn parts_fit(task: &PlanTask<'_>, room: usize) -> bool
-    ensures { OnTrue result (room_of_parts task.now (made_chunks task.now) ≤ room) }
+    ensures { OnTrue result (room_of_parts task.now (region_chunks task.now) ≤ room) }
 {
     let info = target_array(task);
     let mut left = room;
@@ -121,7 +121,7 @@ pub(crate) fn copy_by_chunks<C: Chunks>(
     requires puts { Allows (ChangeBy task.now (C.shown access.old)) (C.may_put store.now) }
     requires own { IsOwnTask task.now }
     requires copy { IsCopy (task_op task.now) }
-    requires parts { room_of_parts task.now (made_chunks task.now) ≤ made_bytes task.now }
+    requires parts { room_of_parts task.now (region_chunks task.now) ≤ made_bytes task.now }
     requires room { scratch_bytes task.now + made_bytes task.now ≤ length bytes.old }
     ensures open { StaysOpen (C.belongs store.now access.new) (C.may_get store.now access.old)
         (C.may_get store.now access.new) }
@@ -156,14 +156,14 @@ fn read_parts<C: Chunks>(
     requires belongs { C.belongs store.now access.old }
     requires may { MayReadWalk task.now.plan.arrays walk.now (C.may_get store.now access.old) }
     requires copy { IsChunkCopy task.now walk.now }
-    requires output { room_of_parts task.now (made_chunks task.now) ≤ length output.old }
+    requires output { room_of_parts task.now (region_chunks task.now) ≤ length output.old }
     requires scratch { chunk_room task.now.plan.arrays walk.now.array ≤ length scratch.old }
     ensures open { StaysOpen (C.belongs store.now access.new) (C.may_get store.now access.old)
         (C.may_get store.now access.new) }
     ensures read { (held : Contents)
         → StillHolds (IsWalkKey task.now.plan.arrays walk.now) held (C.shown access.old)
-        → OnOk result (ReadsParts task.now walk.now held (made_chunks task.now) output.new) }
-    ensures elements { OnOk result (ArePartsOfType task.now (made_chunks task.now) output.new) }
+        → OnOk result (ReadsParts task.now walk.now held (region_chunks task.now) output.new) }
+    ensures elements { OnOk result (ArePartsOfType task.now (region_chunks task.now) output.new) }
     ensures step { Steps NoChange 0 (length (walk_cells task.now.plan.arrays walk.now))
         (C.shown access.old) (C.shown access.new) }
     ensures all { OnOk result (Made (length (walk_cells task.now.plan.arrays walk.now))
@@ -195,7 +195,7 @@ fn read_into_parts<C: Chunks>(
         (key_at (array_at task.now.plan.arrays walk.now.array) coord.now) }
     requires copy { IsChunkCopy task.now walk.now }
     requires coordinate { IsCoordinate (grid_at task.now.plan.arrays walk.now.array) coord.now }
-    requires output { room_of_parts task.now (made_chunks task.now) ≤ length output.old }
+    requires output { room_of_parts task.now (region_chunks task.now) ≤ length output.old }
     requires scratch { chunk_room task.now.plan.arrays walk.now.array ≤ length scratch.old }
     ensures open { StaysOpen (C.belongs store.now access.new) (C.may_get store.now access.old)
         (C.may_get store.now access.new) }
@@ -222,10 +222,10 @@ fn take_into_parts(task: &PlanTask<'_>, walk: &Walk, coord: &Dims, chunk: &[u8],
     requires coordinate { IsCoordinate (grid_at task.now.plan.arrays walk.now.array) coord.now }
     requires chunk { length chunk.now
         ≡ bytes_of (array_at task.now.plan.arrays walk.now.array).layout }
-    requires output { room_of_parts task.now (made_chunks task.now) ≤ length output.old }
+    requires output { room_of_parts task.now (region_chunks task.now) ≤ length output.old }
     ensures { HavePartsTaken task.now
         (chunk_bytes_of task.now walk.now coord.now chunk.now)
-        (made_chunks task.now) output.old output.new }
+        (region_chunks task.now) output.old output.new }
 {
     let from = task.array(walk.array);
     let made = target_array(task);
@@ -260,18 +260,18 @@ fn write_parts<C: Chunks>(
     requires puts { AllowsParts task.now output.now (C.may_put store.now) }
     requires own { IsOwnTask task.now }
     requires copy { IsCopy (task_op task.now) }
-    requires output { room_of_parts task.now (made_chunks task.now) ≤ length output.now }
-    requires elements { ArePartsOfType task.now (made_chunks task.now) output.now }
+    requires output { room_of_parts task.now (region_chunks task.now) ≤ length output.now }
+    requires elements { ArePartsOfType task.now (region_chunks task.now) output.now }
     requires scratch { scratch_bytes task.now ≤ length scratch.old }
     ensures open { StaysOpen (C.belongs store.now access.new) (C.may_get store.now access.old)
         (C.may_get store.now access.new) }
     ensures got { OnOk result (MayReadMade task.now (C.may_get store.now access.new)) }
     ensures step { (start : Shown)
-        → HasEachPart task.now (CarriesPart task.now start) (made_chunks task.now) output.now
+        → HasEachPart task.now (CarriesPart task.now start) (region_chunks task.now) output.now
         → Steps (ChangeBy task.now start) 0 (calls_to_write task.now) (C.shown access.old)
         (C.shown access.new) }
     ensures stored { (env : Elements) (start : Shown) (calls : ℕ)
-        → HasEachPart task.now (CarriesPart task.now start) (made_chunks task.now) output.now
+        → HasEachPart task.now (CarriesPart task.now start) (region_chunks task.now) output.now
         → IsReadyFor task.now env start
         → Steps (ChangeBy task.now start) 0 calls start (C.shown access.old)
         → OnOk result (HoldsMade task.now env (C.shown access.new)) }

@@ -1,5 +1,4 @@
-//! The route by which a task comes by the elements that it makes. The kind of its operation is asked
-//! here, and in `compute`.
+//! The route by which a task comes by the elements that it makes.
 ghost use Rattle.cu_op.specs.Sound.{Sound};
 ghost use Rattle.cu_op.specs.TaskView.{task_op};
 ghost use Rattle.cu_task.specs.Routes.{IsRouteOf};

@@ -4,7 +4,7 @@ ghost use Rattle.std.specs.Prelude.{◌≡◌, ◌+◌, ◌*◌, ◌-◌, ◌<�
 ghost use Rattle.std.specs.Bool.{OnTrue};
 ghost use Rattle.cu_num.specs.Dtype.{size_of};
 ghost use Rattle.cu_shape.specs.Index.{product};
-ghost use Rattle.cu_task.specs.Straight.{behind_first, AreSameBehind, HasRows, StandsFrom};
+ghost use Rattle.cu_task.specs.Straight.{behind_first, AreSameBehind, HasChunkRows, StandsFrom};
 ghost use Rattle.cu_task.specs.ViewJobs.{buffer_room, view_of_chunk, IsFront, IsSourceChunk};
 
 use crate::results::result_bytes;
@@ -80,7 +80,7 @@ fn row_bytes(info: &ArrayInfo) -> Option<u64>
 /// Whether a row of the region is a row of the chunk or of its neighbours along the first axis.
 fn has_rows(chunk: &SourceChunk<'_>) -> bool
     requires { IsSourceChunk chunk.now }
-    ensures { OnTrue result (HasRows chunk.now) }
+    ensures { OnTrue result (HasChunkRows chunk.now) }
 {
     let from = source_array(chunk.job, chunk.source);
     let made = made_array(chunk.job);

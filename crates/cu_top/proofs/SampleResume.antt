@@ -41,7 +41,7 @@ use Rattle.cu_top.proofs.SampleLemmas.{IsSettled, all_free, all_settled, apart, 
 use Rattle.cu_top.specs.Complete.{HasWholeInputs, IsResumable}
 use Rattle.cu_top.specs.Prepare.{HasNoOwnInput, HasPlan, asked_keys, is_own_input, out_metadata}
 use Rattle.cu_top.specs.Quiet.{run_of_job}
-use Rattle.cu_top.specs.Record.{inputs_text, joined, record_text}
+use Rattle.cu_top.specs.Record.{inputs_text, assembled, record_text}
 use Rattle.cu_top.specs.Run.{RunCase, case, scene}
 use Rattle.cu_top.specs.Sample.{left_held, left_shown, sample_chunk, sample_held, sample_input, sample_late, sample_metadata, sample_options, sample_record, sample_resume, sample_shown, sample_text}
 use Rattle.cu_top.specs.Words.{command_of, resume}
@@ -172,8 +172,8 @@ module _ (sounds : SoundLaw) (names : NamesLaw) (lefts : LeftLaw) (job : Job) (i
   record_is : record_text sample_options job ≡ sample_record
   unfolding record_text
   record_is =
-      ap (λ (t : List ℕ). joined sample_options t (inputs_text job.inputs.items)) compact_is
-      ∙ ap (λ (xs : List InputInfo). joined sample_options (unwrap_or (compact_of sample_text) []) (inputs_text xs)) (inputs_are (Some sample_record) job is)
+      ap (λ (t : List ℕ). assembled sample_options t (inputs_text job.inputs.items)) compact_is
+      ∙ ap (λ (xs : List InputInfo). assembled sample_options (unwrap_or (compact_of sample_text) []) (inputs_text xs)) (inputs_are (Some sample_record) job is)
 
   key_is : piece_key r (Text 0) ≡ codes "_cubed/y/plan.json"
   key_is = ap (λ (e : Expression). record_key_of e.store_as) (expr_is (Some sample_record) job is)

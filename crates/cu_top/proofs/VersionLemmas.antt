@@ -25,7 +25,7 @@ use Rattle.cu_command.proofs.JobLemmas.{said_names, inputs_read}
 use Rattle.cu_command.specs.Job.{IsJob}
 use Rattle.cu_command.specs.declared.job.Job.{Job}
 use Rattle.cu_top.specs.Quiet.{run_of_job}
-use Rattle.cu_top.specs.Record.{record_text, joined, inputs_text}
+use Rattle.cu_top.specs.Record.{record_text, assembled, inputs_text}
 use Rattle.cu_top.specs.Versions.{StoresInputs, HoldSameChunks}
 use Rattle.cu_expr.specs.Inputs.{layout_named}
 use Rattle.cu_check.specs.Elements.{form_element, used_element, elements_of}
@@ -43,7 +43,7 @@ one_of o x y one other = cc
 -- what a run is made from
 abbrev run_from : Options → Expression → List NodeInfo → List InputInfo → List ℕ → PlanRun
 run_from options expr types inputs compact =
-    plan_run expr (merged_plan_of expr types inputs options) (joined options compact (inputs_text inputs)) (metadata_text (layout_view (made_layout (info_at types expr.out))))
+    plan_run expr (merged_plan_of expr types inputs options) (assembled options compact (inputs_text inputs)) (metadata_text (layout_view (made_layout (info_at types expr.out))))
 
 made_from : (options : Options) (job : Job) → run_of_job options job ≡ run_from options job.expr job.types job.inputs.items (string_bytes job.compact)
 unfolding record_text

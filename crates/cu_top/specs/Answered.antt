@@ -96,7 +96,7 @@ pub record RunAnswered (lack : Bool) (o : Options) (old new : Scene) (status : S
   -- 10: this task failed as often as it is tried, and ended the run
   pub task_failed : (op task : ℕ) → status ≡ TaskFailed op task
       → CameToRun o old new (λ c. IsTaskFailed c op task)
-  -- 13: this chunk of an input has another length
+  -- 13: this chunk, which a task reads, has another length
   pub bad_chunk : (key : List ℕ) (got want : ℕ) → status ≡ BadChunk key got want
       → CameToRun o old new (λ c. IsBadInput c key got want)
   -- 16: all calls for this key failed
@@ -133,7 +133,7 @@ pub record ResumeAnswered (lack : Bool) (o : Options) (old new : Scene) (status 
   -- 10: this task failed as often as it is tried, and ended the run
   pub task_failed : (op task : ℕ) → status ≡ TaskFailed op task
       → CameToRun o old new (λ c. IsResumedBroken c op task)
-  -- 13: this chunk of an input has another length
+  -- 13: this chunk, which a task reads, has another length
   pub bad_chunk : (key : List ℕ) (got want : ℕ) → status ≡ BadChunk key got want
       → CameToRun o old new (λ c. IsResumedBad c key got want)
   -- 14: the record is another plan's
@@ -215,7 +215,7 @@ pub record PartAnswered (o : Options) (q : Part) (old new : Scene) (status : Sta
   -- 10: this task was started and failed as often as it is tried
   pub task_failed : (op task : ℕ) → status ≡ TaskFailed op task
       → CameToRun o old new (λ c. IsPartedBroken c q op task)
-  -- 13: this chunk of an input, which a task reads that was started, has another length
+  -- 13: this chunk, which a task reads that was started, has another length
   pub bad_chunk : (key : List ℕ) (got want : ℕ) → status ≡ BadChunk key got want
       → CameToRun o old new (λ c. IsPartedBad c q key got want)
   -- 14: the record is another plan's

@@ -13,7 +13,7 @@ use Rattle.cu_op.specs.declared.layout.Layout.{Layout}
 use Rattle.cu_store.specs.Held.{Contents, Write}
 use Rattle.cu_store.specs.Steps.{Shown}
 use Rattle.cu_read.specs.Read.{compact_of}
-use Rattle.cu_top.specs.Record.{inputs_text, joined}
+use Rattle.cu_top.specs.Record.{inputs_text, assembled}
 use Rattle.cu_work.specs.declared.part.Part.{Part}
 use Rattle.cu_zarr.specs.Metadata.{metadata_text}
 
@@ -92,7 +92,7 @@ sample_plan = codes "plan" ∷ codes "--allowed-mem" ∷ codes "64" ∷ []
 -- the record of that copy, and the words of a run that goes on from it
 abbrev pub sample_record : List ℕ
 sample_record =
-    joined sample_options (unwrap_or (compact_of sample_text) []) (inputs_text (sample_input ∷ []))
+    assembled sample_options (unwrap_or (compact_of sample_text) []) (inputs_text (sample_input ∷ []))
 
 abbrev pub sample_resume : List (List ℕ)
 sample_resume = codes "resume" ∷ codes "--allowed-mem" ∷ codes "64" ∷ []

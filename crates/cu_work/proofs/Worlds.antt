@@ -35,7 +35,7 @@ use Rattle.cu_table.specs.Numbers.{IsTask, task_number}
 use Rattle.cu_table.specs.declared.state.Ending.{Ending}
 use Rattle.cu_table.specs.declared.state.Ending.TheVariants.{Halted}
 use Rattle.cu_table.specs.Machine.{Machine, with_task, copy_started, copy_ended, one_copy_more, one_copy_less, done_now, failed_now, no_task, state_at, IsDone, AllDone, AreInputsDone, Runs, opening, opened}
-use Rattle.cu_table.specs.Step.{Settings, Step, StepOf, IsStart, ending_after}
+use Rattle.cu_table.specs.Step.{Settings, Step, StepOf, MayStart, ending_after}
 use Rattle.cu_table.proofs.Copies.{a_copy, All-without, some_copy}
 use Rattle.cu_table.proofs.Keeping.{Kept, state_same, state_other, same_task, counted, step_kept, opening_kept}
 use Rattle.cu_work.proofs.StoredChunks.{as_input, as_read, read_cell, region}
@@ -207,7 +207,7 @@ started_tasks P Failed t ts own all = all
 started_tasks P Halt t ts own all = all
 started_tasks P Late t ts own all = all
 
-start_is : (g : Settings) (old new : Machine) (e : Entry) (kind : EventKind) → StepOf g old kind e new → kind ≡ Start → IsStart g old e
+start_is : (g : Settings) (old new : Machine) (e : Entry) (kind : EventKind) → StepOf g old kind e new → kind ≡ Start → MayStart g old e
 start_is g old new e Start step is = step.0
 start_is g old new e Done step is = cc
 start_is g old new e Failed step is = cc
@@ -229,7 +229,7 @@ module _ (ranges : HaveRanges) (g : Settings) (env : Elements) (old : World) (go
             good.right.done maker.0 t (record { operation = w.operation; number = w.number }) (ready maker.0 t (c, listed, w)) c w.cell
       ]
 
-  inputs_start : (e : Entry) → IsStart g old.machine e → (c : Cell) → Contains (input_cells g.plan e.op e.task) c → maker_at g.plan.arrays c.array ≢ None
+  inputs_start : (e : Entry) → MayStart g old.machine e → (c : Cell) → Contains (input_cells g.plan e.op e.task) c → maker_at g.plan.arrays c.array ≢ None
       → HoldsPiece (chunks_alone g.plan) env (Chunk c) (still old.held)
   inputs_start e can c listed made =
       elim can.can [

@@ -28,7 +28,7 @@ use Rattle.cu_lower_reduce.specs.Steps.{all_made, last_made, HaveEach, HaveInfos
 use Rattle.cu_lower_reduce.specs.declared.copy.CopySetting.{CopySetting}
 use Rattle.cu_lower_reduce.specs.declared.product.Product.{Product}
 use Rattle.cu_lower_reduce.specs.declared.step.Step.{Step}
-use Rattle.cu_lower.specs.Parts.{copying, product_of, setting, CanCopy}
+use Rattle.cu_lower.specs.Parts.{copying, product_of, setting, CanMakeCopies}
 use Rattle.cu_lower.proofs.Applied.{Told}
 use Rattle.cu_lower.proofs.Behind.{behind_hold, behind_last, own_known, own_solved, read_known, read_value}
 use Rattle.cu_lower.proofs.Node.{sources_at, steps_at, Contents, IsAccepted, Laws, Site, Solves, StandsAt}
@@ -93,7 +93,7 @@ module _ (l m : ℕ) where
     abbrev both : (s : StandsAt p k form) → HaveEach p.arrays (sources_at p form) (info_at p.infos l ∷ info_at p.infos m ∷ [])
     both s = (s.known.0, (s.known.1.0, tt))
 
-    next_setting : CanCopy p.infos p.options k form p.first → HasRoom p.options p.first → IsSetting (setting p.options next)
+    next_setting : CanMakeCopies p.infos p.options k form p.first → HasRoom p.options p.first → IsSetting (setting p.options next)
     next_setting can room = own_setting p.options p.first next room (copies_few laws copies (sources_at p form) wanted can.operands refl can.few)
 
     reads_known : StandsAt p k form

@@ -4,7 +4,7 @@ use Rattle.cu_num.specs.Dtype.{IsInteger}
 use Rattle.cu_op.specs.Along.{CarriesFor, carried_reads, carried_array, carried_chunk, carried_walks, chunk_on, group_walk}
 use Rattle.cu_op.specs.Arrays.{grid_at, type_at, chunk_room}
 use Rattle.cu_op.specs.Chunks.{cell}
-use Rattle.cu_op.specs.Form.{Computing}
+use Rattle.cu_op.specs.Route.{Computing}
 use Rattle.cu_op.specs.Kind.{Kind}
 use Rattle.cu_op.specs.Partial.{merge_groups}
 use Rattle.cu_op.specs.declared.layout.ArrayInfo.{ArrayInfo}
@@ -47,7 +47,7 @@ carry_kind axis group sums above out = record {
       ⊎ ((above ≡ Some a) × (from ≡ slice_set idx axis (slice_index idx axis / group)));
   text = codes "carry";
   renumbered = λ f. Carry axis group (f sums) (option_map f above) (f out);
-  form = Computing;
+  route = Computing;
   compared = None;
   stored = None;
 }

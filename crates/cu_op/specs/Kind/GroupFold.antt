@@ -5,7 +5,7 @@ use Rattle.cu_num.specs.declared.folds.FoldKind.TheVariants.{Sum, Min}
 use Rattle.cu_op.specs.Along.{size_on, chunk_on}
 use Rattle.cu_op.specs.Arrays.{grid_at, type_at, chunk_room}
 use Rattle.cu_op.specs.Chunks.{chunk_where}
-use Rattle.cu_op.specs.Form.{Computing}
+use Rattle.cu_op.specs.Route.{Computing}
 use Rattle.cu_op.specs.Grouping.{source_index, label_part, label_chunks, part_places, grouped_walk, labels_walk}
 use Rattle.cu_op.specs.Kind.{Kind}
 use Rattle.cu_op.specs.Matrix.{HasParts}
@@ -56,7 +56,7 @@ group_fold_kind kind axis groups source labels out = record {
       × (((a ≡ source) × (from ≡ source_index (grid_at arrays source) axis idx k)) ⊎ ((a ≡ labels) × (from ≡ k ∷ [])));
   text = codes "groupfold";
   renumbered = λ f. GroupFold kind axis groups (f source) (f labels) (f out);
-  form = Computing;
+  route = Computing;
   compared = None;
   stored = None;
 }

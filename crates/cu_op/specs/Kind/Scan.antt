@@ -3,7 +3,7 @@ use Rattle.cu_num.specs.declared.folds.FoldKind.TheVariants.{Sum}
 use Rattle.cu_op.specs.Along.{CarriesFor, carried_reads, carried_array, carried_chunk, carried_room, carried_walks, chunk_on, group_walk}
 use Rattle.cu_op.specs.Arrays.{grid_at, type_at, chunk_room}
 use Rattle.cu_op.specs.Chunks.{chunk_where}
-use Rattle.cu_op.specs.Form.{Computing}
+use Rattle.cu_op.specs.Route.{Computing}
 use Rattle.cu_op.specs.Kind.{Kind}
 use Rattle.cu_op.specs.Partial.{place_groups}
 use Rattle.cu_op.specs.declared.layout.ArrayInfo.{ArrayInfo}
@@ -41,7 +41,7 @@ scan_kind axis source carry out = record {
       ⊎ ((carry ≡ Some a) × (from ≡ slice_set idx axis (slice_index idx axis / chunk_on (grid_at arrays source) axis)));
   text = codes "scan";
   renumbered = λ f. Scan axis (f source) (option_map f carry) (f out);
-  form = Computing;
+  route = Computing;
   compared = None;
   stored = None;
 }

@@ -1,4 +1,4 @@
-use Rattle.std.proofs.Common.{[], ◌∷◌, ◌*◌, ◌≤◌, length, arith}
+use Rattle.std.proofs.Common.{[], ◌∷◌, length, arith}
 use Rattle.cu_box.proofs.StridedLoops.{none_copied, all_copied, start_of, one_axis}
 use Rattle.cu_box.proofs.StridedBlocks.{inner_can, inner_counts, inner_copied, copied_exchanged, can_exchanged}
 use Rattle.cu_box.proofs.planes.copy_group.Goals as goal

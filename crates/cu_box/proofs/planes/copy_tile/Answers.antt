@@ -1,4 +1,4 @@
-use Rattle.std.proofs.Common.{length, arith}
+use Rattle.std.proofs.Common.{length}
 use Rattle.cu_box.proofs.StridedTiles.{can_in, can_out, tile_copied}
 use Rattle.cu_box.proofs.planes.copy_tile.Goals as goal
 

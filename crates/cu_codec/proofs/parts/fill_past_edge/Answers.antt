@@ -6,7 +6,7 @@ use Rattle.cu_num.specs.Dtype.{size_of}
 use Rattle.cu_num.specs.Element.{element_bytes}
 use Rattle.cu_num.specs.declared.layout.Endian.TheVariants.{Little}
 use Rattle.cu_shape.specs.Index.{product}
-use Rattle.cu_codec.specs.Parts.{IsOneChunk}
+use Rattle.cu_codec.specs.Parts.{IsWholeChunk}
 use Rattle.cu_codec.proofs.OneChunk.{no_fill}
 use Rattle.cu_codec.proofs.parts.fill_past_edge.Goals as goal
 
@@ -17,6 +17,6 @@ returns-then-not-is_one_chunk-clause-filled c p below outside =
 
 pub returns-else-not-is_one_chunk-clause-filled : goal.returns-else-not-is_one_chunk-clause-filled
 returns-else-not-is_one_chunk-clause-filled c =
-    let one : IsOneChunk c.args.grid.now.chunk c.args.coord.now c.chunk_region.result.lo c.chunk_region.result.hi = c.is_one_chunk.ensures.0 (search rules) in
+    let one : IsWholeChunk c.args.grid.now.chunk c.args.coord.now c.chunk_region.result.lo c.chunk_region.result.hi = c.is_one_chunk.ensures.0 (search rules) in
     no_fill c.args.grid.now c.args.coord.now c.chunk_region.result.lo c.chunk_region.result.hi c.chunk_region.ensures.kept c.requires.coordinate c.chunk_region.ensures.inside one
     c.args.t c.args.fill c.args.chunk.now

@@ -3,7 +3,7 @@ use Rattle.std.specs.Prelude.{◌==◌}
 use Rattle.std.specs.Int.{w128}
 use Rattle.std.proofs.lemmas.Int.{to_z-of_z}
 use Rattle.cu_num.specs.Dtype.{size_of}
-use Rattle.cu_take.specs.Taken.{HasTaken, elements_at_places, column}
+use Rattle.cu_take.specs.Taken.{HasTaken, elements_at_places, column_places}
 use Rattle.cu_take.proofs.Buffers.{size_positive}
 use Rattle.cu_reduce.specs.Labels.{is_label}
 use Rattle.cu_group.specs.Regions.{label_in, row_sources}
@@ -78,7 +78,7 @@ loop-k-preserved-then-row-sizes c =
           ((base + q) * inner + j) whole (λ i u h. own q b i u h ∙ same_test q row e)
           (c.loop-k.invariant.done q j b l)
           (subst (λ r. HasTaken kind acc mid new ((base + r) * inner + j)
-          (elements_at_places from input (column ((first + k) * inner) inner (end - k) j)))
+          (elements_at_places from input (column_places ((first + k) * inner) inner (end - k) j)))
           (sym e) (c.take_rows.ensures.takes j l)))
           (λ no.
           takes_no_run kind from acc input old mid new label inner first k (end - k) end q j

@@ -2,7 +2,7 @@ use Rattle.std.proofs.Common.{◌≡◌, ◌*◌, length, ap, ◌∙◌, arith, 
 use Rattle.std.proofs.lemmas.List.{length-take-le}
 use Rattle.cu_num.specs.Dtype.{size_of}
 use Rattle.cu_shape.specs.Index.{product}
-use Rattle.cu_codec.specs.Parts.{IsOneChunk}
+use Rattle.cu_codec.specs.Parts.{IsWholeChunk}
 use Rattle.cu_codec.proofs.OneChunk.{one_chunk_differences}
 use Rattle.cu_region.specs.Reading.{bytes_of}
 use Rattle.cu_region.proofs.StoredReads.{on_ok_then, reads_part, reads_whole}
@@ -10,14 +10,14 @@ use Rattle.cu_region.proofs.read.read_part.Goals as goal
 
 pub read_bytes-requires-clause-within : goal.read_bytes-requires-clause-within
 read_bytes-requires-clause-within g c =
-    let one : IsOneChunk c.args.part.now.info.now.layout.grid.chunk c.args.part.now.coord c.args.part.now.region.now.lo c.args.part.now.region.now.hi = c.is_one_chunk.ensures.0 (search rules) in
+    let one : IsWholeChunk c.args.part.now.info.now.layout.grid.chunk c.args.part.now.coord c.args.part.now.region.now.lo c.args.part.now.region.now.hi = c.is_one_chunk.ensures.0 (search rules) in
     let sized = c.requires.out_length ∙ ap (λ x. product x * size_of c.args.part.now.info.now.layout.dtype)
     (one_chunk_differences c.args.part.now.info.now.layout.grid c.args.part.now.coord c.args.part.now.region.now.lo c.args.part.now.region.now.hi c.requires.part.grid c.requires.part.meets.0 c.requires.part.region one) in
     omega arith
 
 pub returns-then-is_one_chunk-clause-part : goal.returns-then-is_one_chunk-clause-part
 returns-then-is_one_chunk-clause-part g c =
-    let one : IsOneChunk c.args.part.now.info.now.layout.grid.chunk c.args.part.now.coord c.args.part.now.region.now.lo c.args.part.now.region.now.hi = c.is_one_chunk.ensures.0 (search rules) in
+    let one : IsWholeChunk c.args.part.now.info.now.layout.grid.chunk c.args.part.now.coord c.args.part.now.region.now.lo c.args.part.now.region.now.hi = c.is_one_chunk.ensures.0 (search rules) in
     let sized = c.requires.out_length ∙ ap (λ x. product x * size_of c.args.part.now.info.now.layout.dtype)
     (one_chunk_differences c.args.part.now.info.now.layout.grid c.args.part.now.coord c.args.part.now.region.now.lo c.args.part.now.region.now.hi c.requires.part.grid c.requires.part.meets.0 c.requires.part.region one) in
     let long : length c.read_bytes.new.buf ≡ bytes_of c.args.part.now.info.now.layout = omega arith in

@@ -1,6 +1,6 @@
 use Rattle.std.proofs.Common.{◌≡◌, arith, rules}
 use Rattle.cu_num.specs.declared.layout.Endian.TheVariants.{Little}
-use Rattle.cu_codec.specs.Parts.{IsOneChunk}
+use Rattle.cu_codec.specs.Parts.{IsWholeChunk}
 use Rattle.cu_store.specs.Steps.{PutOf}
 use Rattle.cu_store.proofs.Steps.{steps_wider}
 use Rattle.cu_region.specs.Reading.{key_at}
@@ -10,7 +10,7 @@ use Rattle.cu_region.proofs.write.write_part.Goals as goal
 
 pub returns-then-lies_stored-clause-stored : goal.returns-then-lies_stored-clause-stored
 returns-then-lies_stored-clause-stored g c =
-    let one : IsOneChunk c.args.part.now.info.now.layout.grid.chunk c.args.part.now.coord c.args.part.now.region.now.lo c.args.part.now.region.now.hi = c.lies_stored.ensures.one (search rules) in
+    let one : IsWholeChunk c.args.part.now.info.now.layout.grid.chunk c.args.part.now.coord c.args.part.now.region.now.lo c.args.part.now.region.now.hi = c.lies_stored.ensures.one (search rules) in
     let little : c.args.part.now.info.now.layout.endian ≡ Little = c.lies_stored.ensures.little (search rules) in
     let value = whole_spelled c.args.part.now.info.now c.args.part.now.coord c.args.part.now.region.now.lo c.args.part.now.region.now.hi c.args.input.now c.requires.part.grid c.requires.part.region c.requires.part.meets.0 one little
     (λ idx own. c.requires.whole.whole c.args.part.now.coord c.requires.part.meets idx own) c.requires.whole.long c.requires.whole.elements in
@@ -19,7 +19,7 @@ returns-then-lies_stored-clause-stored g c =
 
 pub returns-then-lies_stored-clause-step : goal.returns-then-lies_stored-clause-step
 returns-then-lies_stored-clause-step g c =
-    let one : IsOneChunk c.args.part.now.info.now.layout.grid.chunk c.args.part.now.coord c.args.part.now.region.now.lo c.args.part.now.region.now.hi = c.lies_stored.ensures.one (search rules) in
+    let one : IsWholeChunk c.args.part.now.info.now.layout.grid.chunk c.args.part.now.coord c.args.part.now.region.now.lo c.args.part.now.region.now.hi = c.lies_stored.ensures.one (search rules) in
     let little : c.args.part.now.info.now.layout.endian ≡ Little = c.lies_stored.ensures.little (search rules) in
     let value = whole_spelled c.args.part.now.info.now c.args.part.now.coord c.args.part.now.region.now.lo c.args.part.now.region.now.hi c.args.input.now c.requires.part.grid c.requires.part.region c.requires.part.meets.0 one little
     (λ idx own. c.requires.whole.whole c.args.part.now.coord c.requires.part.meets idx own) c.requires.whole.long c.requires.whole.elements in
@@ -42,7 +42,7 @@ returns-clause-step g c =
 
 pub put_chunk-requires-clause-may : goal.put_chunk-requires-clause-may
 put_chunk-requires-clause-may g c =
-    let one : IsOneChunk c.args.part.now.info.now.layout.grid.chunk c.args.part.now.coord c.args.part.now.region.now.lo c.args.part.now.region.now.hi = c.lies_stored.ensures.one (search rules) in
+    let one : IsWholeChunk c.args.part.now.info.now.layout.grid.chunk c.args.part.now.coord c.args.part.now.region.now.lo c.args.part.now.region.now.hi = c.lies_stored.ensures.one (search rules) in
     let little : c.args.part.now.info.now.layout.endian ≡ Little = c.lies_stored.ensures.little (search rules) in
     let value = whole_spelled c.args.part.now.info.now c.args.part.now.coord c.args.part.now.region.now.lo c.args.part.now.region.now.hi c.args.input.now c.requires.part.grid c.requires.part.region c.requires.part.meets.0 one little
     (λ idx own. c.requires.whole.whole c.args.part.now.coord c.requires.part.meets idx own) c.requires.whole.long c.requires.whole.elements in

@@ -7,7 +7,7 @@ use Rattle.cu_num.specs.declared.layout.Endian.TheVariants.{Little}
 use Rattle.cu_num.specs.declared.folds.FoldKind.TheVariants.{Sum}
 use Rattle.cu_num.proofs.ElementBytes.{bytes_at-written_at_other, length-element_bytes}
 use Rattle.cu_reduce.specs.Folds.{exact_sum}
-use Rattle.cu_take.specs.Taken.{elements_at_places, column}
+use Rattle.cu_take.specs.Taken.{elements_at_places, column_places}
 use Rattle.cu_take.proofs.Taking.{takes_one}
 use Rattle.cu_take.proofs.RowSteps.{short_range, column_sum}
 use Rattle.cu_take.proofs.Sums.{sum_together}
@@ -35,7 +35,7 @@ pub returns-clause-takes : goal.returns-clause-takes
 returns-clause-takes c =
     let acc = c.args.acc in
     let xs : ℕ → _ = λ n. elements_at_places c.args.from c.args.input.now
-    (column c.args.place c.args.step n c.args.j) in
+    (column_places c.args.place c.args.step n c.args.j) in
     let own = to_z w128 (of_z w128 c.load-own.result) in
     let next = to_z w128 (of_z w128 c.wrap-next.result) in
     let total = to_z w128 (of_z w128 c.combine.result) in

@@ -1,6 +1,6 @@
 use Rattle.std.proofs.Common.{◌+◌, ℕ, ℤ, List, subst, ◌∙◌, arith}
 use Rattle.cu_num.specs.declared.folds.FoldKind.TheVariants.{Sum}
-use Rattle.cu_take.specs.Taken.{HasTaken, elements_at_places, column}
+use Rattle.cu_take.specs.Taken.{HasTaken, elements_at_places, column_places}
 use Rattle.cu_take.proofs.RowSteps.{results_more, column_later}
 use Rattle.cu_take.proofs.eights.add_eight_rows.Goals as goal
 
@@ -11,7 +11,7 @@ loop-j-preserved c =
     let width = c.args.width in
     let j = c.loop-j.j in
     let xs : ℕ → List ℤ = λ i. elements_at_places c.args.from c.args.input.now
-    (column c.args.place width 8 i) in
+    (column_places c.args.place width 8 i) in
     record {
       same_length = c.add_first_columns-j.auto.out ∙ inv.same_length;
       within = omega (arith, step.within, inv.within);

@@ -1,5 +1,5 @@
 use Rattle.std.proofs.Common.{◌+◌, ℕ, ℤ, List, subst, ◌∙◌}
-use Rattle.cu_take.specs.Taken.{HasTaken, elements_at_places, column}
+use Rattle.cu_take.specs.Taken.{HasTaken, elements_at_places, column_places}
 use Rattle.cu_take.proofs.RowSteps.{row_more, column_four}
 use Rattle.cu_take.proofs.rows.take_four_rows.Goals as goal
 
@@ -9,7 +9,7 @@ loop-j-preserved c =
     let acc = c.args.acc in
     let j = c.loop-j.j in
     let xs : ℕ → List ℤ = λ i. elements_at_places c.args.from c.args.input.now
-    (column c.args.place c.args.width 4 i) in
+    (column_places c.args.place c.args.width 4 i) in
     record {
       same_length = c.take_four_elements.auto.out ∙ c.loop-j.invariant.same_length;
       row = row_more kind acc c.args.out.now c.loop-j.out c.take_four_elements.new.out c.args.q xs

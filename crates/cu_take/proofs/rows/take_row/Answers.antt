@@ -1,5 +1,5 @@
 use Rattle.std.proofs.Common.{◌+◌, ℕ, ℤ, List, subst, ◌∙◌}
-use Rattle.cu_take.specs.Taken.{HasTaken, elements_at_places, column}
+use Rattle.cu_take.specs.Taken.{HasTaken, elements_at_places, column_places}
 use Rattle.cu_take.proofs.RowSteps.{row_more, column_one}
 use Rattle.cu_take.proofs.rows.take_row.Goals as goal
 
@@ -9,7 +9,7 @@ loop-j-preserved c =
     let acc = c.args.acc in
     let j = c.loop-j.j in
     let xs : ℕ → List ℤ = λ i. elements_at_places c.args.from c.args.input.now
-    (column c.args.place c.args.width 1 i) in
+    (column_places c.args.place c.args.width 1 i) in
     record {
       same_length = c.take_one.auto.out ∙ c.loop-j.invariant.same_length;
       row = row_more kind acc c.args.out.now c.loop-j.out c.take_one.new.out c.args.q xs j

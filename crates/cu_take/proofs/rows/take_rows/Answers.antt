@@ -1,6 +1,6 @@
 use Rattle.std.proofs.Common.{◌≡◌, ◌+◌, ◌-◌, ◌*◌, ◌≤◌, length, sym, subst, ap, ◌∙◌, arith}
 use Rattle.cu_num.specs.Dtype.{size_of}
-use Rattle.cu_take.specs.Taken.{HasTaken, elements_at_places, column}
+use Rattle.cu_take.specs.Taken.{HasTaken, elements_at_places, column_places}
 use Rattle.cu_take.proofs.RowSteps.{rows_left, takes_more_rows}
 use Rattle.cu_take.proofs.rows.take_rows.Goals as goal
 
@@ -32,5 +32,5 @@ pub returns-clause-takes : goal.returns-clause-takes
 returns-clause-takes c j b =
     let all : c.loop-k.k ≡ c.args.rows.count = omega arith in
     subst (λ n. HasTaken c.args.kind c.args.acc c.args.out.now c.loop-k.out (c.args.q + j)
-    (elements_at_places c.args.from c.args.input.now (column c.args.place c.args.rows.width n j)))
+    (elements_at_places c.args.from c.args.input.now (column_places c.args.place c.args.rows.width n j)))
     all (c.loop-k.invariant.done j b)

@@ -1,6 +1,6 @@
 use Rattle.std.proofs.Common.{◌≡◌, ◌+◌, ◌-◌, ◌<◌, ◌≤◌, ℕ, length}
 use Rattle.cu_num.specs.Element.{bytes_at}
-use Rattle.cu_take.specs.Taken.{HasTaken, IsOutside, elements_at_places, column}
+use Rattle.cu_take.specs.Taken.{HasTaken, IsOutside, elements_at_places, column_places}
 use Rattle.cu_take.proofs.rows.take_rows.Given as goal
 
 abbrev pub invariant-loop-k : goal.invariant-loop-k
@@ -8,7 +8,7 @@ invariant-loop-k l = record {
   same_length : length l.out ≡ length l.fn.out;
   within : l.k ≤ l.rows.count;
   done : (j : ℕ) → j < l.rows.width → HasTaken l.kind l.acc l.fn.out l.out (l.q + j)
-      (elements_at_places l.from l.input (column l.place l.rows.width l.k j));
+      (elements_at_places l.from l.input (column_places l.place l.rows.width l.k j));
   left : (p : ℕ) → IsOutside l.q (l.q + l.rows.width) p
       → bytes_at l.acc l.out p ≡ bytes_at l.acc l.fn.out p;
 }

@@ -1,7 +1,7 @@
 use Rattle.std.proofs.Common.{◌≡◌, ◌+◌, ◌-◌, ℕ, List, [], ◌∷◌, Contains, sym, ap, ◌∙◌, subst, arith}
 use Rattle.cu_op.proofs.TaskCells.{region_lengths}
 use Rattle.cu_region.proofs.SteadyKeys.{first_contains, rest_contains}
-use Rattle.cu_task.specs.ChunkCopies.{made_chunks, part_room, room_of_parts}
+use Rattle.cu_task.specs.ChunkCopies.{region_chunks, part_room, room_of_parts}
 use Rattle.cu_task.proofs.CopyByChunks.{all_here, few_here, first_room, made_chunk, room_here}
 use Rattle.cu_task.proofs.chunk_copies.parts_fit.Goals as goal
 
@@ -18,7 +18,7 @@ region_bytes-bytes-requires-clause-few c =
 
 pub loop-coord-init : goal.loop-coord-init
 loop-coord-init c =
-    let all : c.into_iter-coord-iterator.result ≡ made_chunks c.args.task.now = c.into_iter-coord-iterator.ensures.into_iter_gives ∙ c.cover-coord-items.ensures.chunks
+    let all : c.into_iter-coord-iterator.result ≡ region_chunks c.args.task.now = c.into_iter-coord-iterator.ensures.into_iter_gives ∙ c.cover-coord-items.ensures.chunks
     ∙ all_here c.args.task.now c.target_array-info.ensures.sound c.target_array-info.result.now c.region.result.now.lo c.region.result.now.hi c.target_array-info.ensures.info c.region.ensures.lo c.region.ensures.hi in
     record {
       meets = λ coord has. made_chunk c.args.task.now c.target_array-info.ensures.sound coord (subst (λ (x : List (List ℕ)). Contains x coord) all has);

@@ -14,7 +14,7 @@ use Rattle.cu_region.specs.Calls.{chunks_met, region_tally, Made}
 use Rattle.cu_region.specs.Reading.{key_at}
 use Rattle.cu_region.proofs.Calls.{StepsSoFar, steps_none_yet, steps_one_more, steps_most, steps_made, TallySoFar, tally_none_yet, tally_one_more, tally_all}
 use Rattle.cu_region.proofs.SteadyKeys.{first_contains, rest_contains}
-use Rattle.cu_task.specs.ChunkCopies.{made_chunks, HasEachPart}
+use Rattle.cu_task.specs.ChunkCopies.{region_chunks, HasEachPart}
 use Rattle.cu_task.specs.Inputs.{IsWalkKey}
 use Rattle.cu_task.proofs.ChunkParts.{ComesSoFar, IsAnElement, IsHeldElement}
 use Rattle.cu_task.proofs.InputReads.{still_after, walk_tally}
@@ -69,9 +69,9 @@ loop-coord-preserved g c =
       read = λ held still.
           let later = still_after (IsWalkKey c.args.task.now.plan.arrays c.args.walk.now) held (g.C.Chunks.shown c.args.access.now) (g.C.Chunks.shown c.read_into_parts.new.access) _ _ still (steps_then c.loop-coord.invariant.step.2 c.read_into_parts.ensures.step) in
           held_more c.args.task.now c.args.walk.now c.requires.copy c.in-Some.coord c.next.new.self held (g.C.Chunks.shown c.read_into_parts.new.access) c.loop-coord.output c.read_into_parts.new.output meets later takes
-          (subst (λ (x : List (List ℕ)). HasEachPart c.args.task.now (ComesSoFar c.args.task.now (grid_at c.args.task.now.plan.arrays c.args.walk.now.array) (IsHeldElement c.args.task.now (array_at c.args.task.now.plan.arrays c.args.walk.now.array) held) x) (made_chunks c.args.task.now) c.loop-coord.output) e (c.loop-coord.invariant.read held still));
+          (subst (λ (x : List (List ℕ)). HasEachPart c.args.task.now (ComesSoFar c.args.task.now (grid_at c.args.task.now.plan.arrays c.args.walk.now.array) (IsHeldElement c.args.task.now (array_at c.args.task.now.plan.arrays c.args.walk.now.array) held) x) (region_chunks c.args.task.now) c.loop-coord.output) e (c.loop-coord.invariant.read held still));
       elements = elements_more c.args.task.now c.args.walk.now c.requires.copy c.in-Some.coord c.next.new.self (g.C.Chunks.shown c.read_into_parts.new.access).held c.loop-coord.output c.read_into_parts.new.output takes
-          (subst (λ (x : List (List ℕ)). HasEachPart c.args.task.now (ComesSoFar c.args.task.now (grid_at c.args.task.now.plan.arrays c.args.walk.now.array) (IsAnElement c.args.task.now) x) (made_chunks c.args.task.now) c.loop-coord.output) e c.loop-coord.invariant.elements);
+          (subst (λ (x : List (List ℕ)). HasEachPart c.args.task.now (ComesSoFar c.args.task.now (grid_at c.args.task.now.plan.arrays c.args.walk.now.array) (IsAnElement c.args.task.now) x) (region_chunks c.args.task.now) c.loop-coord.output) e c.loop-coord.invariant.elements);
       called = tally_one_more (λ coord. g.C.Chunks.weight c.args.store.now (key_at (array_at c.args.task.now.plan.arrays c.args.walk.now.array) coord)) (region_tally (g.C.Chunks.weight c.args.store.now) (array_at c.args.task.now.plan.arrays c.args.walk.now.array) c.args.walk.now.region.lo c.args.walk.now.region.hi) c.in-Some.coord c.next.new.self (g.C.Chunks.tally c.args.access.now) (g.C.Chunks.tally c.loop-coord.access) (g.C.Chunks.tally c.read_into_parts.new.access)
           (subst (λ (x : List (List ℕ)). TallySoFar (λ coord. g.C.Chunks.weight c.args.store.now (key_at (array_at c.args.task.now.plan.arrays c.args.walk.now.array) coord)) (region_tally (g.C.Chunks.weight c.args.store.now) (array_at c.args.task.now.plan.arrays c.args.walk.now.array) c.args.walk.now.region.lo c.args.walk.now.region.hi) x (g.C.Chunks.tally c.args.access.now) (g.C.Chunks.tally c.loop-coord.access)) e c.loop-coord.invariant.called) c.read_into_parts.ensures.called;
     }
@@ -122,10 +122,10 @@ pub returns-clause-read : goal.returns-clause-read
 returns-clause-read g c held still =
     let e : c.loop-coord.coord-iterator ≡ [] = c.in-None.ensures.steps.0 in
     all_held c.args.task.now c.args.walk.now c.requires.copy held c.loop-coord.output (let long = c.loop-coord.auto.output in let room = c.requires.output in omega (arith, long, room))
-    (subst (λ (x : List (List ℕ)). HasEachPart c.args.task.now (ComesSoFar c.args.task.now (grid_at c.args.task.now.plan.arrays c.args.walk.now.array) (IsHeldElement c.args.task.now (array_at c.args.task.now.plan.arrays c.args.walk.now.array) held) x) (made_chunks c.args.task.now) c.loop-coord.output) e (c.loop-coord.invariant.read held still))
+    (subst (λ (x : List (List ℕ)). HasEachPart c.args.task.now (ComesSoFar c.args.task.now (grid_at c.args.task.now.plan.arrays c.args.walk.now.array) (IsHeldElement c.args.task.now (array_at c.args.task.now.plan.arrays c.args.walk.now.array) held) x) (region_chunks c.args.task.now) c.loop-coord.output) e (c.loop-coord.invariant.read held still))
 
 pub returns-clause-elements : goal.returns-clause-elements
 returns-clause-elements g c =
     let e : c.loop-coord.coord-iterator ≡ [] = c.in-None.ensures.steps.0 in
     all_elements c.args.task.now c.args.walk.now c.requires.copy c.loop-coord.output (let long = c.loop-coord.auto.output in let room = c.requires.output in omega (arith, long, room))
-    (subst (λ (x : List (List ℕ)). HasEachPart c.args.task.now (ComesSoFar c.args.task.now (grid_at c.args.task.now.plan.arrays c.args.walk.now.array) (IsAnElement c.args.task.now) x) (made_chunks c.args.task.now) c.loop-coord.output) e c.loop-coord.invariant.elements)
+    (subst (λ (x : List (List ℕ)). HasEachPart c.args.task.now (ComesSoFar c.args.task.now (grid_at c.args.task.now.plan.arrays c.args.walk.now.array) (IsAnElement c.args.task.now) x) (region_chunks c.args.task.now) c.loop-coord.output) e c.loop-coord.invariant.elements)

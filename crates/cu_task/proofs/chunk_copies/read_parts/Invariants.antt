@@ -7,7 +7,7 @@ use Rattle.cu_store.specs.Steps.{NoChange}
 use Rattle.cu_region.specs.Calls.{chunks_met, region_tally}
 use Rattle.cu_region.specs.Reading.{key_at}
 use Rattle.cu_region.proofs.Calls.{StepsSoFar, TallySoFar}
-use Rattle.cu_task.specs.ChunkCopies.{made_chunks, HasEachPart}
+use Rattle.cu_task.specs.ChunkCopies.{region_chunks, HasEachPart}
 use Rattle.cu_task.specs.Inputs.{IsWalkKey}
 use Rattle.cu_task.specs.Task.{StillHolds}
 use Rattle.cu_task.proofs.ChunkParts.{ComesSoFar, IsAnElement, IsHeldElement}
@@ -19,7 +19,7 @@ invariant-loop-coord g l = record {
   step : StepsSoFar NoChange (chunks_met (grid_at l.task.plan.arrays l.walk.array) l.walk.region.lo l.walk.region.hi) (length l.coord-iterator) (g.C.Chunks.shown l.initial.access) (g.C.Chunks.shown l.access);
   open_ : StaysOpen (g.C.Chunks.belongs l.store l.access) (g.C.Chunks.may_get l.store l.initial.access) (g.C.Chunks.may_get l.store l.access);
   read : (held : Contents) → StillHolds (IsWalkKey l.task.plan.arrays l.walk) held (g.C.Chunks.shown l.initial.access)
-      → HasEachPart l.task (ComesSoFar l.task (grid_at l.task.plan.arrays l.walk.array) (IsHeldElement l.task (array_at l.task.plan.arrays l.walk.array) held) l.coord-iterator) (made_chunks l.task) l.output;
-  elements : HasEachPart l.task (ComesSoFar l.task (grid_at l.task.plan.arrays l.walk.array) (IsAnElement l.task) l.coord-iterator) (made_chunks l.task) l.output;
+      → HasEachPart l.task (ComesSoFar l.task (grid_at l.task.plan.arrays l.walk.array) (IsHeldElement l.task (array_at l.task.plan.arrays l.walk.array) held) l.coord-iterator) (region_chunks l.task) l.output;
+  elements : HasEachPart l.task (ComesSoFar l.task (grid_at l.task.plan.arrays l.walk.array) (IsAnElement l.task) l.coord-iterator) (region_chunks l.task) l.output;
   called : TallySoFar (λ coord. g.C.Chunks.weight l.store (key_at (array_at l.task.plan.arrays l.walk.array) coord)) (region_tally (g.C.Chunks.weight l.store) (array_at l.task.plan.arrays l.walk.array) l.walk.region.lo l.walk.region.hi) l.coord-iterator (g.C.Chunks.tally l.initial.access) (g.C.Chunks.tally l.access);
 }

@@ -8,7 +8,7 @@ use Rattle.cu_op.specs.Arrays.{grid_at}
 use Rattle.cu_op.specs.declared.layout.ArrayInfo.{ArrayInfo}
 use Rattle.cu_op.proofs.TaskCells.{region_lengths}
 use Rattle.cu_region.proofs.SteadyKeys.{first_contains, rest_contains}
-use Rattle.cu_task.specs.ChunkCopies.{made_chunks, made_info, part_lo, part_hi, part_room, room_of_parts, ChunkBytes}
+use Rattle.cu_task.specs.ChunkCopies.{region_chunks, made_info, part_lo, part_hi, part_room, room_of_parts, ChunkBytes}
 use Rattle.cu_task.proofs.ChunkParts.{behind_more, taken_all, taken_more, taken_none, TakenSoFar}
 use Rattle.cu_task.proofs.CopyByChunks.{all_here, few_here, first_room, made_chunk, room_here}
 use Rattle.cu_task.proofs.chunk_copies.take_into_parts.Goals as goal
@@ -26,7 +26,7 @@ region_bytes-requires-clause-few c =
 
 pub loop-part-init : goal.loop-part-init
 loop-part-init c =
-    let all : c.into_iter-part-iterator.result ≡ made_chunks c.args.task.now = c.into_iter-part-iterator.ensures.into_iter_gives ∙ c.cover-part-items.ensures.chunks
+    let all : c.into_iter-part-iterator.result ≡ region_chunks c.args.task.now = c.into_iter-part-iterator.ensures.into_iter_gives ∙ c.cover-part-items.ensures.chunks
     ∙ all_here c.args.task.now c.target_array-made.ensures.sound c.target_array-made.result.now c.region.result.now.lo c.region.result.now.hi c.target_array-made.ensures.info c.region.ensures.lo c.region.ensures.hi in
     record {
       meets = λ coord has. made_chunk c.args.task.now c.target_array-made.ensures.sound coord (subst (λ (x : List (List ℕ)). Contains x coord) all has);

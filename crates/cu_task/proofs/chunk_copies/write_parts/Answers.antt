@@ -13,7 +13,7 @@ use Rattle.cu_region.specs.Writing.{AreElements}
 use Rattle.cu_region.proofs.Calls.{TallySoFar, tally_none_yet, tally_one_more, tally_all}
 use Rattle.cu_region.proofs.SteadyKeys.{first_contains, first_or_rest, none_contained, rest_contains}
 use Rattle.cu_region.proofs.StoredWrites.{write_fault_more}
-use Rattle.cu_task.specs.ChunkCopies.{made_chunks, made_info, own_lo, own_hi, part_room, room_of_parts, ArePartsOfType, CarriesPart, HasEachPart}
+use Rattle.cu_task.specs.ChunkCopies.{region_chunks, made_info, own_lo, own_hi, part_room, room_of_parts, ArePartsOfType, CarriesPart, HasEachPart}
 use Rattle.cu_task.specs.OfTask.{ChangeBy}
 use Rattle.cu_task.proofs.ChunkParts.{HeldSoFar, WritesSoFar}
 use Rattle.cu_task.proofs.CopyByChunks.{all_here, few_here, first_room, got_all, held_more, holds_all, made_chunk, no_writes, one_write, room_here, writes_made, writes_most, written_calls, written_tally}
@@ -32,7 +32,7 @@ region_bytes-requires-clause-few g c =
 
 pub loop-coord-init : goal.loop-coord-init
 loop-coord-init g c =
-    let all : c.into_iter-coord-iterator.result ≡ made_chunks c.args.task.now = c.into_iter-coord-iterator.ensures.into_iter_gives ∙ c.cover-coord-items.ensures.chunks
+    let all : c.into_iter-coord-iterator.result ≡ region_chunks c.args.task.now = c.into_iter-coord-iterator.ensures.into_iter_gives ∙ c.cover-coord-items.ensures.chunks
     ∙ all_here c.args.task.now c.target_array-info.ensures.sound c.target_array-info.result.now c.region.result.now.lo c.region.result.now.hi c.target_array-info.ensures.info c.region.ensures.lo c.region.ensures.hi in
     record {
       meets = λ coord has. made_chunk c.args.task.now c.target_array-info.ensures.sound coord (subst (λ (x : List (List ℕ)). Contains x coord) all has);

@@ -11,7 +11,7 @@ use Rattle.cu_op.specs.Walks.{IsWalkOver}
 use Rattle.cu_reduce.specs.Groups.{group_counts}
 use Rattle.cu_reduce.specs.Kinds.{HasEnough}
 use Rattle.cu_shape.specs.Index.{product, place_of}
-use Rattle.cu_task.specs.Merges.{without}
+use Rattle.cu_task.specs.Merges.{without_axis}
 use Rattle.cu_task.proofs.PartCells.{ordered_at}
 use Rattle.cu_task.proofs.PartGroups.{axis_groups, rows_count, rows_enough, rows_merged, rows_of, rows_results, HasMerged}
 use Rattle.cu_task.proofs.PartMerges.{axis_within, rows_known, sizes_of, task_merge, times_over}
@@ -62,7 +62,7 @@ merge_region-requires-clause-enough c =
     let ranks = region_lengths _ _ _ over.1 in
     let long = c.requires.output ∙ known.output in
     let parts : c.at.result - c.at-2.result ≡ get_or w.region.hi m.axis 0 - get_or w.region.lo m.axis 0 = rw (c.at.ensures, c.at-2.ensures, c.input_walk-walk.ensures.walk) refl in
-    let results : length c.args.output.now / c.from.result ≡ product (without m.axis (sizes_of w)) = rw (c.from.ensures, c.size.ensures, c.dtype_of-dtype.ensures, long) (times_over (product (without m.axis (sizes_of w))) (size_of acc) (size_positive acc)) in
+    let results : length c.args.output.now / c.from.result ≡ product (without_axis m.axis (sizes_of w)) = rw (c.from.ensures, c.size.ensures, c.dtype_of-dtype.ensures, long) (times_over (product (without_axis m.axis (sizes_of w))) (size_of acc) (size_positive acc)) in
     let rows : c.push-2.new.self ≡ rows_of m.axis (sizes_of w) = rw (c.push-2.ensures, c.push.ensures, c.default-rows.ensures) (rows_known m.axis _ _ w (ranks.1 ∙ sym ranks.0) within.0 parts results) in
     subst (λ (ds : List ℕ). HasEnough m.kind (axis_groups 0 ds) ds) (sym rows) (rows_enough m.axis (sizes_of w) known.along m.kind known.enough)
 
@@ -78,7 +78,7 @@ merge_region-requires-clause-input c =
     let ranks = region_lengths _ _ _ over.1 in
     let long = c.requires.output ∙ known.output in
     let parts : c.at.result - c.at-2.result ≡ get_or w.region.hi m.axis 0 - get_or w.region.lo m.axis 0 = rw (c.at.ensures, c.at-2.ensures, c.input_walk-walk.ensures.walk) refl in
-    let results : length c.args.output.now / c.from.result ≡ product (without m.axis (sizes_of w)) = rw (c.from.ensures, c.size.ensures, c.dtype_of-dtype.ensures, long) (times_over (product (without m.axis (sizes_of w))) (size_of acc) (size_positive acc)) in
+    let results : length c.args.output.now / c.from.result ≡ product (without_axis m.axis (sizes_of w)) = rw (c.from.ensures, c.size.ensures, c.dtype_of-dtype.ensures, long) (times_over (product (without_axis m.axis (sizes_of w))) (size_of acc) (size_positive acc)) in
     let rows : c.push-2.new.self ≡ rows_of m.axis (sizes_of w) = rw (c.push-2.ensures, c.push.ensures, c.default-rows.ensures) (rows_known m.axis _ _ w (ranks.1 ∙ sym ranks.0) within.0 parts results) in
     let count = rows_count m.axis (sizes_of w) known.along in
     rw (rows, c.dtype_of-dtype.ensures) (c.requires.input ∙ known.input ∙ ap (λ n. n * size_of acc) (sym count))
@@ -95,7 +95,7 @@ merge_region-requires-clause-out c =
     let ranks = region_lengths _ _ _ over.1 in
     let long = c.requires.output ∙ known.output in
     let parts : c.at.result - c.at-2.result ≡ get_or w.region.hi m.axis 0 - get_or w.region.lo m.axis 0 = rw (c.at.ensures, c.at-2.ensures, c.input_walk-walk.ensures.walk) refl in
-    let results : length c.args.output.now / c.from.result ≡ product (without m.axis (sizes_of w)) = rw (c.from.ensures, c.size.ensures, c.dtype_of-dtype.ensures, long) (times_over (product (without m.axis (sizes_of w))) (size_of acc) (size_positive acc)) in
+    let results : length c.args.output.now / c.from.result ≡ product (without_axis m.axis (sizes_of w)) = rw (c.from.ensures, c.size.ensures, c.dtype_of-dtype.ensures, long) (times_over (product (without_axis m.axis (sizes_of w))) (size_of acc) (size_positive acc)) in
     let rows : c.push-2.new.self ≡ rows_of m.axis (sizes_of w) = rw (c.push-2.ensures, c.push.ensures, c.default-rows.ensures) (rows_known m.axis _ _ w (ranks.1 ∙ sym ranks.0) within.0 parts results) in
     let count = rows_results m.axis (sizes_of w) known.along in
     subst (λ (ds : List ℕ). length c.args.output.now ≡ product (group_counts (axis_groups 0 ds) ds) * size_of c.dtype_of-dtype.result) (sym rows)
@@ -113,7 +113,7 @@ returns-clause-values c =
     let ranks = region_lengths _ _ _ over.1 in
     let long = c.requires.output ∙ known.output in
     let parts : c.at.result - c.at-2.result ≡ get_or w.region.hi m.axis 0 - get_or w.region.lo m.axis 0 = rw (c.at.ensures, c.at-2.ensures, c.input_walk-walk.ensures.walk) refl in
-    let results : length c.args.output.now / c.from.result ≡ product (without m.axis (sizes_of w)) = rw (c.from.ensures, c.size.ensures, c.dtype_of-dtype.ensures, long) (times_over (product (without m.axis (sizes_of w))) (size_of acc) (size_positive acc)) in
+    let results : length c.args.output.now / c.from.result ≡ product (without_axis m.axis (sizes_of w)) = rw (c.from.ensures, c.size.ensures, c.dtype_of-dtype.ensures, long) (times_over (product (without_axis m.axis (sizes_of w))) (size_of acc) (size_positive acc)) in
     let rows : c.push-2.new.self ≡ rows_of m.axis (sizes_of w) = rw (c.push-2.ensures, c.push.ensures, c.default-rows.ensures) (rows_known m.axis _ _ w (ranks.1 ∙ sym ranks.0) within.0 parts results) in
     let first = subst (λ (ds : List ℕ). HasMerged m.kind c.dtype_of-dtype.result 0 ds (λ i. element_at Little c.dtype_of-dtype.result c.args.input.now (place_of ds i)) c.merge_region.new.out) rows c.merge_region.ensures in
     let second = subst (λ (t : Dtype). HasMerged m.kind t 0 (rows_of m.axis (sizes_of w)) (λ i. element_at Little t c.args.input.now (place_of (rows_of m.axis (sizes_of w)) i)) c.merge_region.new.out) c.dtype_of-dtype.ensures first in
@@ -132,7 +132,7 @@ returns-clause-elements c =
     let ranks = region_lengths _ _ _ over.1 in
     let long = c.requires.output ∙ known.output in
     let parts : c.at.result - c.at-2.result ≡ get_or w.region.hi m.axis 0 - get_or w.region.lo m.axis 0 = rw (c.at.ensures, c.at-2.ensures, c.input_walk-walk.ensures.walk) refl in
-    let results : length c.args.output.now / c.from.result ≡ product (without m.axis (sizes_of w)) = rw (c.from.ensures, c.size.ensures, c.dtype_of-dtype.ensures, long) (times_over (product (without m.axis (sizes_of w))) (size_of acc) (size_positive acc)) in
+    let results : length c.args.output.now / c.from.result ≡ product (without_axis m.axis (sizes_of w)) = rw (c.from.ensures, c.size.ensures, c.dtype_of-dtype.ensures, long) (times_over (product (without_axis m.axis (sizes_of w))) (size_of acc) (size_positive acc)) in
     let rows : c.push-2.new.self ≡ rows_of m.axis (sizes_of w) = rw (c.push-2.ensures, c.push.ensures, c.default-rows.ensures) (rows_known m.axis _ _ w (ranks.1 ∙ sym ranks.0) within.0 parts results) in
     let first = subst (λ (ds : List ℕ). HasMerged m.kind c.dtype_of-dtype.result 0 ds (λ i. element_at Little c.dtype_of-dtype.result c.args.input.now (place_of ds i)) c.merge_region.new.out) rows c.merge_region.ensures in
     let second = subst (λ (t : Dtype). HasMerged m.kind t 0 (rows_of m.axis (sizes_of w)) (λ i. element_at Little t c.args.input.now (place_of (rows_of m.axis (sizes_of w)) i)) c.merge_region.new.out) c.dtype_of-dtype.ensures first in
