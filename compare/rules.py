@@ -146,9 +146,14 @@ ROWS = {
 
 
 def whole_number(text):
-    """Reads a number as an integer only where it is one of 64 bits, and not minus zero."""
+    """Reads a number as an integer only where it is one of 64 bits, and not minus zero. One that no float holds is none of JSON."""
     number = int(text)
-    return number if text != "-0" and -(2**63) <= number < 2**64 else float(number)
+    if text != "-0" and -(2**63) <= number < 2**64:
+        return number
+    try:
+        return float(number)
+    except OverflowError:
+        raise ValueError(text[:20]) from None
 
 
 def no_constant(text):

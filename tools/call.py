@@ -178,7 +178,9 @@ def run(call, lock=None):
             child.send_signal(number)
 
     for number in ENDING:
-        signal.signal(number, pass_on)
+        # What is ignored stays so for the program too, as under nohup.
+        if signal.getsignal(number) is not signal.SIG_IGN:
+            signal.signal(number, pass_on)
     child = subprocess.Popen(call.words, stdin=call.stdin, stderr=said.write_end, close_fds=False,
                              preexec_fn=as_without_python)
     said.begin()

@@ -144,6 +144,25 @@ class Stops(WithProgram):
         status, _, _ = self.on_terminal("run", text=text_of(ADDITION), send=signal.SIGKILL, until=self.stored)
         self.assertEqual(status, -signal.SIGKILL)
 
+    def test_what_is_ignored_stays_ignored(self):
+        """As under nohup, and as Ctrl-C for what a shell runs in the background."""
+        self.program('cat >/dev/null; echo >"$1/begun"; while [ ! -e "$1/go" ]; do sleep 0.05; done; echo ok')
+        ignored = (signal.SIGHUP, signal.SIGINT)
+        process = subprocess.Popen([self.script, self.top, "load"], stdin=subprocess.PIPE,
+                                   stdout=subprocess.PIPE, stderr=subprocess.PIPE,
+                                   preexec_fn=lambda: [signal.signal(it, signal.SIG_IGN) for it in ignored])
+        self.addCleanup(process.kill)
+        process.stdin.write(LOADED)
+        process.stdin.close()
+        process.stdin = None
+        self.assertTrue(wait_until(lambda: os.path.exists(f"{self.top}/begun")))
+        for number in ignored:
+            process.send_signal(number)
+        time.sleep(0.2)
+        put(f"{self.top}/go")
+        printed, told = process.communicate(timeout=30)
+        self.assertEqual((process.returncode, printed, told), (0, b"ok\n", b""))
+
     def test_a_limit_on_the_size_of_files_is_no_signal(self):
         """The program gets SIGXFSZ ignored, on a terminal too; nothing else is ignored that wasn't.
         """
@@ -516,7 +535,7 @@ class ExplainText(InFolder):
         self.assertRegex(alone,
                          r"^error 3 code=3 node=N\n  cause: .*\n  stored: nothing\n  what to do: .*\n$")
         for text in (b"[" * 5000, b'{"nodes":7}',
-                     b'{"nodes":[7],"out":"\\ud800","store_as":"\\u001b[31m"}', b"9" * 9000,
+                     b'{"nodes":[7],"out":"\\ud800","store_as":"\\u001b[31m"}', b"9" * 9000, b"9" * 400,
                      b'{"nodes":[{"id":"\\n","op":"\\u0007"}],"out":"a","store_as":"y"}'):
             for line in ("error 3 code=3 node=0", "error 4 code=1 node=99999999999"):
                 found = self.explain(line, text, self.top)

@@ -196,8 +196,9 @@ class HowFar(InFolder):
                      json.dumps({**record, "inputs": []}).encode(),
                      json.dumps({**record, "expr": {**record["expr"], "store_as": "z"}}).encode(),
                      b" " * (1 << 23), b"[" * 100000,
-                     json.dumps({**record, "inputs": {"a": {**record["inputs"]["a"],
-                                                            "shape": [2**40]}}}).encode()):
+                     *[json.dumps({**record, "inputs": {"a": {**record["inputs"]["a"], **more}}}).encode()
+                       for more in ({"shape": [2**40]}, {"attributes": {"a": 10**400}},
+                                    {"fill_value": -10**400})]):
             put(f"{self.top}/_cubed/y/plan.json", text)
             self.assertIn("unfinished: a run was stopped, or is at work; no metadata",
                           self.cubed("status"))
@@ -428,6 +429,28 @@ class StrangeFiles(InFolder):
         self.assertEqual(ended.returncode, 1)
         with open(f"{self.room}/precious", "rb") as file:
             self.assertEqual(file.read(), b"mine")
+
+    def test_only_a_file_is_replaced(self):
+        """A pipe, a folder, and what a link leads to stay as they are, and so does a device, which
+        only root can put here.
+        """
+        self.zarr("write", "x", "1", "2")
+        put(f"{self.room}/out/precious", b"mine")
+        os.mkfifo(f"{self.room}/pipe")
+        os.symlink("out/precious", f"{self.room}/link")
+        os.symlink("/dev/null", f"{self.room}/null")
+        before = {name: os.lstat(f"{self.room}/{name}") for name in ("pipe", "link", "null", "out")}
+        for name in before:
+            for form in ("--raw", "--npy"):
+                ended = run(f"{TOP}/tools/zarr", self.top, "read", "x", form, f"{self.room}/{name}")
+                self.assertEqual((ended.returncode, ended.stdout, ended.stderr.count(b"\n")), (1, b"", 1))
+                self.assertIn(b"is no file", ended.stderr)
+        for name, told in before.items():
+            self.assertTrue(os.path.samestat(told, os.lstat(f"{self.room}/{name}")), name)
+        self.assertEqual(sorted(os.listdir(self.room)), ["arrays", "link", "null", "out", "pipe"])
+        self.zarr("read", "x", "--raw", f"{self.room}/out/precious")
+        with open(f"{self.room}/out/precious", "rb") as file:
+            self.assertEqual(file.read(), bytes([1, 0, 0, 0, 2, 0, 0, 0]))
 
     def test_elements_come_through_a_pipe(self):
         os.mkfifo(f"{self.room}/pipe")

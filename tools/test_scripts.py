@@ -121,6 +121,18 @@ class Zarr(InFolder):
             self.zarr("adopt", "b", status=1)
             self.zarr("read", "b", "--raw", "-", status=1)
 
+    def test_an_adopted_array_stays_readable(self):
+        """Attributes that the program doesn't read, as zarr-python's NaN, are left out, and the others stay."""
+        told = {"zarr_format": 2, "shape": [3], "chunks": [2], "dtype": "|i1", "compressor": None, "filters": None, "order": "C", "fill_value": None}
+        for number, odd in enumerate((b"NaN", b"[0,-Infinity]", b"1e999", b'"\\ud800"', b"1" + b"0" * 400, b"[" * 200 + b"]" * 200)):
+            put(f"{self.top}/a{number}/.zarray", json.dumps(told).encode())
+            put(f"{self.top}/a{number}/.zattrs", b'{"odd":' + odd + b',"units":"K"}')
+            self.zarr("adopt", f"a{number}")
+            with open(f"{self.top}/a{number}/zarr.json", "rb") as file:
+                data = file.read()
+            self.assertIsInstance(rules.meta_or_code(data), rules.Array, odd)
+            self.assertEqual(json.loads(data)["attributes"], {"units": "K"})
+
     @unittest.skipIf(numpy is None, "NumPy can't be imported")
     def test_files_of_numpy(self):
         pick = numpy.random.default_rng(1)

@@ -242,12 +242,22 @@ def layout_of_v2(told):
     return Layout(name, shape, chunk, fill, "big" if dtype[0] == ">" and item_bytes(name) > 1 else "little", "v2", separator)
 
 
-def json_of(path):
+def json_of(path, constant=None):
     data = bytes_in(path, METADATA_BYTES)
     try:
-        return json.loads(data.decode("utf-8"), parse_constant=no_constant)
+        return json.loads(data.decode("utf-8"), parse_constant=constant or no_constant)
     except (ValueError, RecursionError):
         raise Unread("its metadata isn't JSON") from None
+
+
+def is_read(value, levels):
+    """Whether the program reads a JSON value: numbers that a float holds, texts of UTF-8, and so many levels."""
+    if isinstance(value, (list, dict)):
+        parts = value if isinstance(value, list) else [*value, *value.values()]
+        return levels > 0 and all(is_read(it, levels - 1) for it in parts)
+    if isinstance(value, str):
+        return not any("\ud800" <= letter <= "\udfff" for letter in value)
+    return value is None or (math.isfinite(value) if isinstance(value, float) else abs(value) < 2**1023)
 
 
 def no_constant(text):

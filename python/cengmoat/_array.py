@@ -10,7 +10,7 @@ from ._dtypes import DType, NDArray, as_dtype
 from ._labels import labels_of
 from ._operators import Operators
 from ._refused import Refused
-from ._shapes import ChunksLike, Shape, numblocks, one_axis, product
+from ._shapes import ChunksLike, Shape, numblocks, one_axis, product, some_axes
 from ._show import array_html, array_text
 
 if TYPE_CHECKING:
@@ -194,7 +194,7 @@ class Array(Refused, Collection, Operators):
         """Return the array with axes of size 1 put in, at their places in the result."""
         axes = axis if isinstance(axis, (tuple, list)) else (axis,)
         ndim, node = self.ndim + len(axes), self.node
-        for at in sorted(one_axis(it, ndim) for it in axes):
+        for at in sorted(some_axes(tuple(axes), ndim)):
             node = views.expand_dims(node, at)
         return Array(node)
 

@@ -9,7 +9,7 @@ from typing import Any, Iterator, Optional
 import numpy as np
 
 from ._dtypes import NDArray
-from .errors import BadChunk
+from .errors import BadChunk, Unfinished
 from ._index import Index, Taken
 from ._metadata import Metadata
 from ._opening import new_file, read_regular, told
@@ -110,8 +110,15 @@ def _parts(taken: Taken, side: int) -> Iterator[tuple[int, Any, slice]]:
         at += count
 
 
-def read_index_of(folder: str, name: str, meta: Metadata, index: Index) -> NDArray:
+def read_index_of(folder: str, name: str, meta: Metadata, index: Index, is_whole: bool = False) -> NDArray:
     """Return the elements that an index takes of a stored array. Each chunk that has one of them is read once, and no other.
+
+    Parameters
+    ----------
+    folder, name, meta, index
+        The array, and what is taken of it.
+    is_whole : bool
+        Whether each chunk was stored, as of a result that a run has just made: then an absent one isn't the fill value.
 
     Returns
     -------
@@ -122,10 +129,15 @@ def read_index_of(folder: str, name: str, meta: Metadata, index: Index) -> NDArr
     ------
     BadChunk
         Where a chunk file hasn't the bytes of a chunk.
+    Unfinished
+        Where a chunk that was stored isn't there.
     """
     out = np.full(tuple(taken.count for taken in index.axes), meta.fill, meta.dtype)
     for parts in itertools.product(*(list(_parts(taken, side)) for taken, side in zip(index.axes, meta.chunks))):
-        chunk = read_chunk(folder, name, meta, tuple(part[0] for part in parts))
+        coordinate = tuple(part[0] for part in parts)
+        chunk = read_chunk(folder, name, meta, coordinate)
+        if chunk is None and is_whole:
+            raise Unfinished(f"the run has ended, and {meta.chunk_key(name, coordinate)} isn't there: another program removed it")
         if chunk is not None:
             out[tuple(part[2] for part in parts)] = chunk[tuple(part[1] for part in parts)]
     return out.reshape(index.shape)

@@ -245,7 +245,7 @@ def locked(folder: str, name: str, *, remove: bool = False, wait: float = MOMENT
     folder, name : str
         The folder of the arrays, and the name.
     remove : bool
-        Whether its file is removed at the end.
+        Whether its file is removed at the end, unless it still names what is temporary.
     wait : float
         The seconds in which it is tried again: who asks whether a lock is held, holds it for a moment.
 
@@ -257,7 +257,7 @@ def locked(folder: str, name: str, *, remove: bool = False, wait: float = MOMENT
         Where the system refuses the lock's file, as in a folder that may only be read, or another program's file lies there.
     """
     end = time.monotonic() + wait
-    file = _taken(folder, name)
+    file, process = _taken(folder, name), os.getpid()
     while file is None:
         if time.monotonic() >= end:
             raise _refusal(folder, name)
@@ -268,8 +268,13 @@ def locked(folder: str, name: str, *, remove: bool = False, wait: float = MOMENT
         lock.write(lock.left)
         yield lock
     finally:
-        if remove:
-            file.remove()
+        if os.getpid() == process:
+            # (names that a killed call left are told by this file alone)
+            if remove and not _texts(_content(file.descriptor).get("temporary")):
+                file.remove()
+            # (a process that was forked meanwhile, as a worker of a pool, has the same open file, and would hold the lock as long as it lives)
+            with contextlib.suppress(OSError):
+                fcntl.flock(file.descriptor, fcntl.LOCK_UN)
         file.close()
 
 

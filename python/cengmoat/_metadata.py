@@ -2,6 +2,7 @@
 from __future__ import annotations
 
 import json
+import math
 import re
 from dataclasses import dataclass, field, replace
 from typing import Any, Iterator, Mapping, Optional
@@ -13,6 +14,8 @@ from .errors import BadMetadata
 from ._shapes import MOST_AXES, MOST_CHUNK_BYTES, MOST_CHUNKS, MOST_ELEMENTS, Shape, numblocks, product
 
 MOST_TEXT = 1_048_576
+# How deep the program reads JSON; the metadata and its attributes are the first two levels.
+MOST_LEVELS = 127
 # The coordinate of a chunk as it is written.
 NUMBER = re.compile(r"(0|[1-9][0-9]{0,18})\Z")
 REQUIRED = ("zarr_format", "node_type", "shape", "data_type", "chunk_grid", "chunk_key_encoding", "fill_value", "codecs")
@@ -109,7 +112,8 @@ class Metadata:
                                                      for part, count in zip(parts, self.numblocks))
 
     def text(self) -> str:
-        """Return the metadata as the program writes it: compact JSON, its members in byte order."""
+        """Return the metadata as the program writes it: compact JSON, its members in byte order. Attributes that not each reader takes,
+        as those of version 2 with NaN, are left out."""
         codec: dict[str, Any] = {"name": "bytes"}
         if self.dtype.itemsize > 1:
             codec["configuration"] = {"endian": "big" if self.is_big else "little"}
@@ -120,10 +124,25 @@ class Metadata:
             "codecs": [codec], "fill_value": bool(self.fill) if self.dtype == BOOL else self.fill,
         }
         if self.dimensions is not None:
-            members["dimension_names"] = list(self.dimensions)
-        if self.attributes:
-            members["attributes"] = dict(self.attributes)
+            members["dimension_names"] = [name if is_readable(name) else None for name in self.dimensions]
+        attributes = {name: value for name, value in self.attributes.items() if is_readable({name: value}, MOST_LEVELS - 1)}
+        if attributes:
+            members["attributes"] = attributes
         return json.dumps(members, sort_keys=True, separators=(",", ":"))
+
+
+def is_readable(value: Any, levels: int = MOST_LEVELS - 2) -> bool:
+    """Return whether each reader takes a value in metadata: JSON has no NaN and no infinity, and the program reads numbers that a float
+    holds, texts of UTF-8, and so many levels."""
+    if isinstance(value, str):
+        return not any("\ud800" <= it <= "\udfff" for it in value)
+    if isinstance(value, (list, tuple)):
+        return levels > 0 and all(is_readable(it, levels - 1) for it in value)
+    if isinstance(value, dict):
+        return levels > 0 and all(isinstance(name, str) and is_readable(name) and is_readable(it, levels - 1) for name, it in value.items())
+    if isinstance(value, float):
+        return math.isfinite(value)
+    return value is None or isinstance(value, int) and abs(value) < 2**1023
 
 
 def _number(text: str) -> int | float:

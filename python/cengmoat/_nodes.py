@@ -78,6 +78,16 @@ class Node:
         found.data = data
         return found
 
+    def __reduce__(self) -> tuple[Any, ...]:
+        """Return what a pickle has: all nodes in one list, arguments first, since one within another would be too deep for it."""
+        places: dict[int, int] = {}
+        rows = []
+        for node in in_order(self):
+            args = [(True, places[id(arg)]) if isinstance(arg, Node) else (False, arg) for arg in node.args]
+            rows.append((args, {name: getattr(node, name) for name in self.__slots__ if name != "args"}))
+            places[id(node)] = len(places)
+        return _restored, (rows,)
+
     @property
     def stored_as(self) -> Optional[Node]:
         """The input whose elements these are as they are stored; also of int8 numbers that stand for truth values."""
@@ -96,6 +106,18 @@ class Node:
     def chunk_bytes(self) -> int:
         """The bytes of a chunk."""
         return product(self.chunks) * self.dtype.itemsize
+
+
+def _restored(rows: list[tuple[list[tuple[bool, Any]], dict[str, Any]]]) -> Node:
+    """Return the last node of a pickle's list."""
+    found: list[Node] = []
+    for args, members in rows:
+        node = Node.__new__(Node)
+        node.args = tuple(found[value] if is_node else value for is_node, value in args)
+        for name, value in members.items():
+            setattr(node, name, value)
+        found.append(node)
+    return found[-1]
 
 
 def in_order(node: Node) -> list[Node]:
@@ -134,6 +156,8 @@ class Graph:
     ----------
     nodes : list of Node
         Each node once; `places` has the numbers of all, by their identities, and `out` that of the result.
+    stored : list of Node
+        The inputs as they were read: several of one name where arrays were stored under it one after another.
     """
 
     def __init__(self, out: Node, data_names: Optional[Mapping[int, str]] = None) -> None:
@@ -141,7 +165,9 @@ class Graph:
         self.texts: list[dict[str, Any]] = []
         numbers: dict[str, int] = {}
         places: dict[int, int] = {}
-        for node in in_order(out):
+        order = in_order(out)
+        self.stored = list({(node.members["name"], node.meta, node.takes_unfinished): node for node in order if node.op == "input"}.values())
+        for node in order:
             members = dict(node.members)
             if node.op == "data":
                 members["name"] = (data_names or {}).get(id(node), f"memory-{id(node)}")

@@ -223,7 +223,12 @@ def _pad(array: Any, pad_width: Any, mode: str = "constant", constant_values: An
     value = np.asarray(constant_values)
     if mode != "constant" or value.size != 1:
         refuse("pad")
-    widths = np.broadcast_to(np.asarray(pad_width, "int64"), (len(node.shape), 2)).tolist()
+    counts = np.asarray(pad_width)
+    if counts.dtype.kind not in "iu":
+        raise TypeError(f"numpy.pad: pad_width is integers, and not {pad_width!r}")
+    if counts.min(initial=0) < 0:
+        raise ValueError(f"numpy.pad: pad_width {pad_width!r} has a negative number")
+    widths = np.broadcast_to(counts, (len(node.shape), 2)).tolist()
     for at, (before, behind) in enumerate(widths):
         parts = [node if count is None else
                  views.full((*node.shape[:at], count, *node.shape[at + 1:]), as_literal(value.reshape(())[()]), node.dtype, node.chunks)

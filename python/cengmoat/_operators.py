@@ -1,6 +1,7 @@
 """The operators of lazy arrays, with numbers and arrays in memory on either side."""
 from __future__ import annotations
 
+import numbers
 from typing import Any, Optional, TypeVar
 
 import numpy as np
@@ -41,7 +42,7 @@ def operand(value: Any) -> Any:
     Raises
     ------
     TypeError
-        For a float, a complex number, a text or None.
+        For a number that isn't whole, a list, a text or None: Python would take `x == [1, 2]` for False where both sides know nothing of it.
     """
     if isinstance(value, Operators):
         return value.node
@@ -53,7 +54,9 @@ def operand(value: Any) -> Any:
     if type(value).__module__.partition(".")[0] == "dask":
         raise TypeError("an array of Dask and a lazy one of Cengmoat don't go together: convert one. store.save(name, array, chunks) stores Dask's;"
                         " x.compute() computes the other")
-    if value is None or isinstance(value, (float, complex, np.inexact, str, bytes)):
+    if isinstance(value, (list, tuple, range)):
+        raise TypeError(f"a {type(value).__name__} is no operand of a lazy array: xp.asarray makes an array of it, as in x == xp.asarray([1, 2])")
+    if value is None or isinstance(value, (numbers.Number, np.inexact, str, bytes)):
         as_literal(value)
     return NotImplemented
 

@@ -13,6 +13,11 @@ from ._shapes import Shape, numblocks, product
 from ._show import table_html, table_text
 from ._sizes import bytes_text
 from ._stages import left_stages
+from .errors import strange
+
+
+# The most characters of a report.
+MOST_REPORT = 1000
 
 
 class Report(NamedTuple):
@@ -26,8 +31,11 @@ class Report(NamedTuple):
 
 
 def read_report(line: str) -> Report:
-    """Return the report of a run that the program printed."""
-    found = dict(re.findall(r"(\w+)=(\d+)", line))
+    """Return the report of a run that the program printed, or refuse what is none, by Stopped."""
+    # (a long text is looked at no further: it is no report)
+    found = dict(re.findall(r"\b([a-z]+)=([0-9]{1,40})\b", line)) if line.startswith("ok ") and len(line) < MOST_REPORT else {}
+    if not set(Report._fields) <= set(found):
+        raise strange("a report", line)
     return Report(*(int(found[field]) for field in Report._fields))
 
 
@@ -229,7 +237,7 @@ class _Reads:
 
 
 def read_plan(text: str, graph: Graph, allowed: int, reserved: int, workers: int = 1) -> Plan:
-    """Return the plan that the program printed.
+    """Return the plan that the program printed, or refuse what is none, by Stopped.
 
     Parameters
     ----------
@@ -242,6 +250,9 @@ def read_plan(text: str, graph: Graph, allowed: int, reserved: int, workers: int
     workers : int
         How many tasks run at once.
     """
+    peak = re.search(r"^plan .*\bpeak=([0-9]{1,40})$", text, re.M)
+    if peak is None:
+        raise strange("a plan", text)
     rows = [_Row(int(number), kind, *map(int, rest)) for number, kind, *rest in re.findall(
         r"^op (\d+) (\w+) node=(\d+) tasks=(\d+) cells=(\d+) projected=(\d+)$", text, re.M)]
     reads = _Reads(graph, max(0, allowed - reserved) // 2)
@@ -249,5 +260,4 @@ def read_plan(text: str, graph: Graph, allowed: int, reserved: int, workers: int
     inlined = tuple(expression(node) for at, node in enumerate(graph.nodes) if node.op not in ("input", "data") and at not in reads.made)
     inputs = {expression(node): product(max(1, count) for count in numblocks(node.shape, node.chunks)) * node.chunk_bytes
               for node in graph.nodes if node.op in ("input", "data")}
-    peak = re.search(r"^plan .*\bpeak=(\d+)$", text, re.M)
-    return Plan(tuple(found), int(peak[1]) if peak else 0, allowed, inlined, inputs, workers)
+    return Plan(tuple(found), int(peak[1]), allowed, inlined, inputs, workers)

@@ -105,7 +105,7 @@ def call_program(words: Sequence[str], text: str, *, expression_of: Callable[[in
         raise
     if process.returncode:
         raise error_of(process.returncode, said[1].decode(errors="replace"), expression_of)
-    return said[0].decode()
+    return said[0].decode(errors="replace")
 
 
 def _communicate(process: subprocess.Popen[bytes], text: bytes, watch: Optional[Callable[[], float]]) -> tuple[bytes, bytes]:

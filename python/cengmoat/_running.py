@@ -10,7 +10,7 @@ from dataclasses import replace
 from typing import TYPE_CHECKING, Any, Iterator, Mapping, Optional
 
 from ._dtypes import NDArray
-from .errors import BadExpression, NoArray, OtherPlan, OverMemory, Stale
+from .errors import BadExpression, NoArray, OtherPlan, OverMemory, Stale, Unfinished, strange
 from ._files import read_index_of, write_file
 from ._fit import fitting_chunks
 from ._index import read_index
@@ -117,17 +117,15 @@ def said_of(meta: Optional[Metadata]) -> str:
 
 
 def _check_fresh(store: Store, graph: Graph) -> None:
-    for node in graph.nodes:
-        if node.op == "input":
-            check_fresh(store, node)
+    for node in graph.stored:
+        check_fresh(store, node)
 
 
 def _check_inputs(store: Store, graph: Graph) -> None:
     """Refuse inputs that were replaced, or that a run has begun and not finished, unless they were asked for as they are."""
     _check_fresh(store, graph)
-    for node in graph.nodes:
-        if node.op == "input" and not node.takes_unfinished:
-            check_finished(store.folder, node.members["name"])
+    for name in dict.fromkeys(node.members["name"] for node in graph.stored if not node.takes_unfinished):
+        check_finished(store.folder, name)
 
 
 def _ask_plan(store: Store, folder: str, graph: Graph, text: str, fusion: Optional[int] = None) -> Plan:
@@ -300,7 +298,10 @@ def check_node(node: Node, name: str, store: Optional[Store]) -> int:
 
 def _checked(store: Store, graph: Graph, name: str) -> int:
     said = call_program(store.words("check"), graph.text(name), expression_of=graph.expression)
-    return int(said.split()[-1])
+    count = re.fullmatch(r"equal ([0-9]{1,40})\s*", said)
+    if count is None:
+        raise strange("how many elements are equal", said)
+    return int(count[1])
 
 
 def compute_node(node: Node, store: Optional[Store], progress: Optional[bool], explain: bool = False) -> NDArray:
@@ -327,5 +328,8 @@ def _computed(store: Store, graph: Graph, name: str, progress: Optional[bool]) -
     node = graph.nodes[graph.out]
     with locked(store.folder, name, remove=True) as lock, memory_stored(store.folder, graph, lock, [name]):
         _run(store, graph, name, lock.descriptor, progress)
-        check_finished(store.folder, name)
-        return read_index_of(store.folder, name, _layout(node), read_index(..., node.shape))
+        found = metadata_of(store.folder, name)
+        if found != _layout(node):
+            raise Unfinished(f"the run has ended, and its result is {said_of(found)}, and not {said_of(_layout(node))}:"
+                             " another program removed or replaced its files")
+        return read_index_of(store.folder, name, found, read_index(..., node.shape), is_whole=True)

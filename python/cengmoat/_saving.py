@@ -57,23 +57,34 @@ def write_array(folder: str, name: str, meta: Metadata, data: Any, sync: bool = 
         Whether each file is on the disk before it has its name.
     """
     written: list[str] = []
+    # (what is there already isn't ours, and stays)
+    before = {at for at, _, _ in os.walk(os.path.join(folder, name))}
     try:
         for coordinate in meta.coordinates():
-            key = meta.chunk_key(name, coordinate)
             part = _part(data, meta, coordinate)
-            written.append(os.path.join(folder, key))
-            write_file(folder, key, whole_chunk(meta, part), sync)
-        write_file(folder, metadata_key(name), meta.text().encode(), sync)
+            _write(folder, meta.chunk_key(name, coordinate), whole_chunk(meta, part), sync, written)
+        _write(folder, metadata_key(name), meta.text().encode(), sync, written)
     except BaseException:
-        _take_back(os.path.join(folder, name), written)
+        _take_back(os.path.join(folder, name), written, before)
         raise
 
 
-def _take_back(folder: str, written: list[str]) -> None:
-    """Remove the chunks that were stored, and the folders that are then empty."""
-    for path in written:
+def _write(folder: str, key: str, data: bytes, sync: bool, written: list[str]) -> None:
+    """Store a file and note it: before, where nothing lies there, since a stop may come once it has its name; else once it was replaced."""
+    path = os.path.join(folder, key)
+    if not os.path.lexists(path):
+        written.append(path)
+    write_file(folder, key, data, sync)
+    if path not in written[-1:]:
+        written.append(path)
+
+
+def _take_back(folder: str, written: list[str], before: set[str]) -> None:
+    """Remove what was stored, the metadata first, and the folders that were made for it and are empty."""
+    for path in reversed(written):
         with contextlib.suppress(OSError):
             os.unlink(path)
     for at, _, _ in os.walk(folder, topdown=False):
-        with contextlib.suppress(OSError):
-            os.rmdir(at)
+        if at not in before:
+            with contextlib.suppress(OSError):
+                os.rmdir(at)

@@ -161,11 +161,13 @@ def chosen_chunks(shape: Shape, dtype: DType, fixed: Sequence[Optional[int]] = (
     return tuple(sides)
 
 
-def _one_side(side: Any) -> int:
+def _one_side(side: Any, whole: int) -> int:
     """Return the chunk size of an axis that is given as one, or as the sizes of all its chunks."""
     if not isinstance(side, (tuple, list)):
         return as_int(side, "a chunk size")
-    sizes = [as_int(size, "a chunk size") for size in side] or [1]
+    sizes = [as_int(size, "a chunk size") for size in side] or [0]
+    if sum(sizes) != whole or min(sizes) < 0:
+        raise ValueError(f"chunks {tuple(sizes)}: an axis of {whole} elements is wanted in parts")
     if any(size != sizes[0] for size in sizes[:-1]) or sizes[-1] > sizes[0]:
         raise ValueError(f"chunks {tuple(sizes)}: an axis has one chunk size, which its last chunk alone may be below")
     return max(1, sizes[0])
@@ -205,7 +207,7 @@ def as_chunks(chunks: ChunksLike, shape: Shape, dtype: DType, current: Optional[
             raise ValueError(f"chunks {tuple(chunks)}: one size for each of {len(shape)} axes is wanted")
     else:
         sides = [as_int(chunks, "chunks")] * len(shape)
-    whole = [_one_side(side) for side in sides]
+    whole = [_one_side(side, size) for side, size in zip(sides, shape)]
     if any(side < 1 and side != -1 for side in whole):
         raise ValueError(f"chunks {chunks}: a chunk size is at least 1, or -1 for the whole axis")
     return tuple(max(1, size) if side == -1 else side for side, size in zip(whole, shape))

@@ -141,9 +141,17 @@ def status_of(folder: str, name: str) -> ArrayStatus:
     return ArrayStatus(name, meta.dtype, meta.shape, meta.chunks, stored, meta.nchunks, finished, running, stored * meta.chunk_bytes)
 
 
+def _is_folder(entry: os.DirEntry[str]) -> bool:
+    """Return whether an entry is a folder or a link to one; one that leads to itself, or where nobody may look, is none."""
+    try:
+        return entry.is_dir()
+    except OSError:
+        return False
+
+
 def _entries(folder: str) -> list[str]:
     try:
-        return [entry.name for entry in os.scandir(folder) if is_name(entry.name) and not is_own(entry.name) and entry.is_dir()]
+        return [entry.name for entry in os.scandir(folder) if is_name(entry.name) and not is_own(entry.name) and _is_folder(entry)]
     except (FileNotFoundError, NotADirectoryError):
         return []
     except OSError as error:

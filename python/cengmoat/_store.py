@@ -17,7 +17,7 @@ from ._files import read_index_of
 from ._index import read_index
 from ._left import telling
 from ._locks import locked
-from ._metadata import Metadata
+from ._metadata import MOST_LEVELS, MOST_TEXT, Metadata, is_readable
 from ._names import check_free_name, check_name
 from ._nodes import Node
 from ._offers import offers_words
@@ -28,7 +28,7 @@ from ._saving import check_absent, write_array
 from ._shapes import ChunksLike, as_chunks, check_limits
 from ._sizes import as_bytes
 from ._status import Status, all_names, array_names, check_finished, metadata_of, status_of
-from ._temporary import uninterrupted
+from ._temporary import remove_names, uninterrupted
 
 
 def _count(value: Any, low: int, high: int, what: str) -> int:
@@ -44,7 +44,7 @@ def _dims(data: Any, dims: Optional[Sequence[str]], ndim: int) -> Optional[tuple
         dims = getattr(data, "dims", None) if type(data).__module__.startswith("xarray.") else None
     if dims is None:
         return None
-    if isinstance(dims, str) or len(dims) != ndim or not all(isinstance(name, str) for name in dims):
+    if isinstance(dims, str) or len(dims) != ndim or not all(isinstance(name, str) and is_readable(name) for name in dims):
         raise ValueError(f"dims {dims!r}: one name for each of {ndim} axes is wanted")
     return tuple(dims)
 
@@ -54,16 +54,27 @@ def _attrs(data: Any, attrs: Optional[Mapping[str, Any]]) -> dict[str, Any]:
     if attrs is not None:
         try:
             json.dumps(dict(attrs), allow_nan=False)
-        except (TypeError, ValueError) as error:
+        except (TypeError, ValueError, RecursionError) as error:
             raise TypeError(f"attrs: {error}: attributes are texts, numbers, truth values, and lists of these") from None
+        for name, value in attrs.items():
+            if not is_readable({name: value}, MOST_LEVELS - 1):
+                raise TypeError(f"attrs: {name!r} isn't read by each reader of Zarr: its name and each text are of UTF-8, a number is one"
+                                f" that a float holds, and it has at most {MOST_LEVELS - 2} levels")
         return dict(attrs)
     found = {}
     for name, value in (getattr(data, "attrs", {}) if type(data).__module__.startswith("xarray.") else {}).items():
         plain = value.tolist() if isinstance(value, (np.generic, np.ndarray)) else value
-        with contextlib.suppress(TypeError, ValueError):
+        with contextlib.suppress(TypeError, ValueError, RecursionError):
             json.dumps({name: plain}, allow_nan=False)
-            found[str(name)] = plain
+            if is_readable({str(name): plain}, MOST_LEVELS - 1):
+                found[str(name)] = plain
     return found
+
+
+def _is_lazy(data: Any) -> bool:
+    """Return whether it is a lazy array, or one of xarray over one. (`data.data` would read the whole of a file that xarray has opened.)"""
+    held = getattr(getattr(data, "variable", data), "_data", None) if type(data).__module__.startswith("xarray.") else data
+    return isinstance(held, Array)
 
 
 class Store(Mapping[str, Array]):
@@ -248,7 +259,7 @@ class Store(Mapping[str, Array]):
             Where there is an array of this name, or the record of a plan that makes one.
         """
         check_free_name(name)
-        if isinstance(data, Array) or not isinstance(data, np.ndarray) and isinstance(getattr(data, "data", None), Array):
+        if _is_lazy(data):
             raise TypeError(f"save takes an array in memory: x.store({name!r}) computes and stores a lazy one")
         check_unmasked(data)
         if not all(hasattr(data, it) for it in ("shape", "dtype", "__getitem__")):
@@ -261,6 +272,8 @@ class Store(Mapping[str, Array]):
         sides = as_chunks(chunks, shape, dtype)
         check_limits(shape, sides, dtype, "save")
         meta = Metadata(dtype, shape, sides, dimensions=_dims(data, dims, len(shape)), attributes=_attrs(data, attrs))
+        if len(meta.text()) > MOST_TEXT:
+            raise ValueError(f"attrs: the metadata has {len(meta.text())} bytes with them, and {MOST_TEXT} are the most that is read")
         with telling(f"store.save({name!r}, ..)", self.folder, name, True), locked(self.folder, name):
             check_absent(self.folder, name)
             write_array(self.folder, name, meta, data)
@@ -328,8 +341,11 @@ class Store(Mapping[str, Array]):
         """
         if Removal(self.folder, check_name(name)).is_nothing:
             raise self._missing(name)
-        with telling(f"store.remove({name!r})", self.folder, name), locked(self.folder, name, remove=True), uninterrupted():
+        with telling(f"store.remove({name!r})", self.folder, name), locked(self.folder, name, remove=True) as lock, uninterrupted():
             found = Removal(self.folder, name)
             found.check(inputs)
             found.remove()
+            # (what a killed call that stored it kept beside it)
+            remove_names(self.folder, lock.left)
+            lock.write()
         return found.kept

@@ -251,8 +251,22 @@ BY_STATUS: dict[int, type[CengmoatError]] = {
     if kind.status is not None}
 # Fields that are texts; the others are numbers.
 TEXTS = ("name", "key")
+# The most characters of what a program wrote that an error says.
+MOST_SAID = 2000
 # The codes of a text that isn't an expression as a whole.
 WHOLE = (1, 2, 7)
+
+
+def _said(output: str) -> str:
+    """Return what a program wrote, as an error may say it: not more than a page."""
+    said = output.strip()
+    return said if len(said) <= MOST_SAID else f"{said[:MOST_SAID]}.. ({len(said)} characters)"
+
+
+def strange(what: str, output: str) -> Stopped:
+    """Return the error of a call that ended with 0, and printed something else than what belongs to it."""
+    return Stopped(f"the program ended with status 0, and didn't print {what}, but {_said(output) or 'nothing'}."
+                   " It is perhaps of another version than the package: see Store.program")
 
 
 def error_of(status: int, output: str, expression_of: Callable[[int], Optional[str]] = lambda node: None) -> CengmoatError:
@@ -267,14 +281,14 @@ def error_of(status: int, output: str, expression_of: Callable[[int], Optional[s
     expression_of : callable
         Returns the Python expression of a node's number.
     """
-    lines = [line for line in output.splitlines() if line.startswith(f"error {status}")]
     kind = BY_STATUS.get(status)
-    if kind is None or not lines:
+    lines = [line for line in output.splitlines() if re.fullmatch(rf"error {status}( (({'|'.join(TEXTS)})=\S+|[a-z]+=-?[0-9]{{1,40}}))*", line)]
+    found = dict(re.findall(r"(\w+)=(\S*)", lines[-1])) if lines else {}
+    if kind is None or not lines or not set(found) <= set(kind.fields):
         how = f"was stopped by signal {-status}" if status < 0 else f"ended with status {status}"
-        said = f": {output.strip()}" if output.strip() else ""
+        said = f": {_said(output)}" if output.strip() else ""
         return Stopped(f"the program {how}{said}")
-    values: dict[str, Any] = {field: text if field in TEXTS else int(text)
-                              for field, text in re.findall(r"(\w+)=(\S*)", lines[-1])}
+    values: dict[str, Any] = {field: text if field in TEXTS else int(text) for field, text in found.items()}
     # (an answer on the whole text names the node 0)
     is_whole = status == 3 and values.get("code") in WHOLE
     expression = expression_of(values["node"]) if "node" in values and not is_whole else None

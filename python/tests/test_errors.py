@@ -98,6 +98,22 @@ class Lines(Case):
         self.assertEqual(store.names(), ["t"])
 
 
+    def test_programs_that_print_something_else(self) -> None:
+        store = self.store()
+        store.save("t", np.arange(4))
+        ends = ("", "print('hello')", "sys.stdout.buffer.write(bytes([255, 254]))", "print('ok ops=1 tasks=2')", "print('ok ops=' + '9' * 5000)",
+                "sys.stderr.write('error 5 node=x need=1 allowed=2')\nsys.exit(5)", "sys.stderr.write('error 9 message=3')\nsys.exit(9)",
+                "sys.stderr.write('error 5 node=' + '9' * 5000)\nsys.exit(5)", "sys.stderr.buffer.write(bytes([255]))\nsys.exit(5)",
+                "sys.stderr.write('x' * 5000000)\nsys.exit(1)", "print('y' * 5000000)")
+        for end in ends:
+            t = self.store(program=self.fake_program(end))["t"]
+            for call in ((t + 1).compute, (t + 1).plan, lambda: (t + 1).check("t"), lambda: (t + 1).store("y")):
+                with self.assertRaises(cengmoat.Stopped, msg=end) as found:
+                    call()
+                self.assertLess(len(str(found.exception)), 4000, end)
+            self.assertEqual(self.store().names(), ["t"])
+
+
 class Answers(WithProgram):
     """Answers of the program itself."""
 

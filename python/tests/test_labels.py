@@ -57,6 +57,31 @@ class Labels(Case):
                              (xp.concat([t[0, 0], b]), {"long_name": "temperature", "scale_factor": 10, "_FillValue": -1, "why": "base"})):
             self.assertEqual(lazy.attrs, wanted, lazy)
 
+    def test_what_not_each_reader_takes_is_not_written(self) -> None:
+        nested: Any = 1
+        for _ in range(126):
+            nested = [nested]
+        data, before = np.zeros(3, "int8"), self.here.names()
+        for bad in ({"a": "\ud800"}, {"\ud800": 1}, {1: "a", "b": 2}, {"a": 10**400}, {"a": nested}, {"a": [float("inf")]}):
+            self.assertRaises(TypeError, self.here.save, "bad", data, attrs=bad)
+        for more in ({"attrs": {"a": "x" * 2**20}}, {"dims": ("\ud800",)}):
+            self.assertRaises(ValueError, self.here.save, "bad", data, **more)
+        self.assertEqual(self.here.names(), before)
+        self.assertEqual(self.here.save("deep", data, attrs={"a": nested[0]}).attrs, {"a": nested[0]})
+
+    def test_a_result_of_version_2_stays_readable(self) -> None:
+        """zarr-python writes NaN and Infinity into .zattrs, which no metadata of version 3 may have."""
+        layout = {"chunks": [4], "compressor": None, "dtype": "<i4", "fill_value": 0, "filters": None, "order": "C", "shape": [4], "zarr_format": 2}
+        for name, text in (("v/.zarray", json.dumps(layout)), ("y/zarr.json", cengmoat._metadata.Metadata(np.dtype("int32"), (4,), (4,)).text())):
+            os.makedirs(os.path.dirname(os.path.join(self.here.folder, name)))
+            with open(os.path.join(self.here.folder, name), "w", encoding="utf-8") as file:
+                file.write(text)
+        for odd in ("Infinity", "[0, NaN]", "1e999", '"\\ud800"', "1" + "0" * 400, "[" * 200 + "]" * 200):
+            with open(os.path.join(self.here.folder, "v", ".zattrs"), "w", encoding="utf-8") as file:
+                file.write(f'{{"odd": {odd}, "units": "K"}}')
+            cengmoat._running._label(self.here.folder, "y", (self.here["v"] + 1).node)
+            self.assertEqual(self.here["y"].attrs, {"units": "K"}, odd)
+
     def test_from_xarray(self) -> None:
         if xarray is None:
             self.skipTest("xarray isn't there")
@@ -66,6 +91,33 @@ class Labels(Case):
         again = xarray.DataArray(stored)
         self.assertEqual((again.dims, again.attrs), (("y", "x"), {"units": "m", "count": 3}))
         self.assertEqual(xarray.DataArray(self.here.save("plain", np.zeros((2, 3), "int8"))).dims, ("dim_0", "dim_1"))
+
+
+    def test_a_file_of_xarray_is_read_chunk_by_chunk(self) -> None:
+        if xarray is None:
+            self.skipTest("xarray isn't there")
+        from xarray.core import indexing
+        exact = np.arange(40, dtype="int16").reshape(10, 4)
+
+        class Far(xarray.backends.BackendArray):
+            """An array of a file, of which parts are read."""
+
+            shape, dtype, most = exact.shape, exact.dtype, 0
+
+            def __getitem__(self, key: Any) -> Any:
+                return indexing.explicit_indexing_adapter(key, self.shape, indexing.IndexingSupport.BASIC, self.part)
+
+            def part(self, key: Any) -> np.ndarray:
+                found = exact[key]
+                self.most = max(self.most, found.size)
+                return found
+
+        far = Far()
+        opened = xarray.Dataset({"v": (("y", "x"), indexing.MemoryCachedArray(indexing.LazilyIndexedArray(far)))})["v"]
+        self.same(self.here.save("far", opened, (3, 2)).compute(), exact)
+        self.assertEqual((far.most, self.here["far"].dims), (6, ("y", "x")))
+        for lazy in (self.t, xarray.DataArray(self.t), xarray.DataArray(self.t).variable):
+            self.assertRaises(TypeError, self.here.save, "bad", lazy)
 
 
 class Results(WithProgram):

@@ -2,6 +2,7 @@
 from __future__ import annotations
 
 import concurrent.futures
+import multiprocessing
 import os
 import threading
 import unittest
@@ -94,6 +95,14 @@ class Played(Case):
                     tasks = sorted(at for its, start, stop in parts if its == op for at in range(start, stop))
                     self.assertEqual(tasks, list(range(6)))
                 self.assertGreater(min(at for at, part in enumerate(parts) if part[0] == 1), max(at for at, part in enumerate(parts) if part[0] == 0))
+
+    def test_workers_that_live_on_hold_no_lock(self) -> None:
+        """A pool forks its workers while the lock is held, and they have its open file."""
+        with concurrent.futures.ProcessPoolExecutor(2, multiprocessing.get_context("fork")) as pool:
+            self.x.store("y", executor=pool)
+            self.assertEqual(self.here.status()["y"].state, "finished")
+            self.here.remove("y")
+            self.same(self.x.store("y", executor=pool).compute(), np.arange(6, dtype="int8"))
 
     def test_lost_workers_and_early_parts_are_tried_again(self) -> None:
         for how in ("die", "error 21 op=0 task=0"):

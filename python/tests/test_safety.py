@@ -101,6 +101,16 @@ class Temporary(Case):
         self.assertRaises(cengmoat.OtherPlan, (other["t"] + 1).store, "y", self.store(program=other.program, split_every=5), resume=True)
 
 
+    def test_a_result_that_is_gone_is_not_zeros(self) -> None:
+        """The program ends with 0 also where its folder, or a chunk behind the work, was removed meanwhile."""
+        gone = "import shutil\nshutil.rmtree(os.path.join(words[0], {0}))\nshutil.rmtree(os.path.join(words[0], '_cubed'))\n"
+        for what in ("name", "os.path.join(name, 'c')"):
+            here = self.store(program=self.fake_program(STORES.replace('print("ok', gone.format(what) + 'print("ok')))
+            with self.assertRaises(cengmoat.Unfinished) as found:
+                (here["t"] + 1).compute()
+            self.assertIn("another program removed", str(found.exception))
+
+
 class Removing(Case):
     def setUp(self) -> None:
         super().setUp()
@@ -273,6 +283,21 @@ class Removing(Case):
         shutil.rmtree(os.path.join(far, "y"))
         self.here.remove("y", inputs=True)
         self.assertEqual(self.here.names(), ["t"])
+
+    def test_what_a_killed_call_kept_beside_a_result_goes_with_it(self) -> None:
+        name = "data-cengmoat-0123456789abcdef01"
+        for inputs in (False, True):
+            with cengmoat._locks.locked(self.here.folder, "y") as lock:
+                lock.write([name])
+            self.put(f"arrays/{name}/c/0", "x")
+            self.put(f"arrays/{name}/zarr.json", self.text())
+            self.here.save("y", np.arange(3)) if inputs else self.put("arrays/_cubed/y/plan.json", "{}")
+            if inputs:
+                # (a refused removal forgets nothing either)
+                self.assertRaises(cengmoat.NotRemoved, self.here.remove, "y")
+                self.assertIn("y", cengmoat._locks.temporaries(self.here.folder))
+            self.here.remove("y", inputs=inputs)
+            self.assertEqual([key for key in self.keys(self.here.folder) if not key.startswith("t/")], [])
 
     def test_an_input_goes_only_where_it_is_said(self) -> None:
         before = self.keys(self.here.folder)
@@ -628,6 +653,15 @@ class Replaced(Case):
         self.assertRaises(cengmoat.NoArray, t.compute)
         here.save("t", np.array([5, 6, 7, 8], "int32"))
         self.same(t.compute(), np.array([5, 6, 7, 8], "int32"))
+
+    def test_another_layout_is_refused_beside_the_new_one(self) -> None:
+        here = self.store(program=self.fake_program(STORES))
+        old = here.save("t", np.array([1, 2, 3, 4], "int16"))
+        here.remove("t", inputs=True)
+        new = here.save("t", np.array([40000, 1, 2, 3], "uint16"))
+        for lazy in ((old > 0) & (new > 0), (new > 0) & (old > 0), xp.where(new > 0, old, 0)):
+            for call in (lazy.plan, lazy.compute, lambda: lazy.store("y")):
+                self.assertRaises(cengmoat.Stale, call)
 
 
 class Masks(Case):

@@ -1,12 +1,17 @@
 """Stored arrays and lazy arrays, without the program: saving, reading, what is known beforehand, and bad input."""
 from __future__ import annotations
 
+import copy
 import itertools
 import json
 import os
+import pickle
 import random
 import unittest
+from decimal import Decimal
+from fractions import Fraction
 from typing import Any
+from unittest import mock
 
 from .support import TOP, TYPES, Case, cengmoat, np, xp
 
@@ -100,6 +105,34 @@ class Saving(Case):
         self.assertEqual(self.keys(store.folder), [])
         self.assertFalse(os.path.exists(os.path.join(store.folder, "a")))
         store.save("a", np.zeros(4, "int8"), 2)
+
+    def test_a_stop_behind_the_last_file_leaves_no_array_of_zeros(self) -> None:
+        store, replace = self.store(), os.replace
+
+        def late(source: str, target: str) -> None:
+            replace(source, target)
+            if target.endswith("zarr.json"):
+                raise KeyboardInterrupt
+
+        with mock.patch("os.replace", late):
+            self.assertRaises(KeyboardInterrupt, store.save, "a", np.arange(1, 5, dtype="int8"))
+        self.assertEqual((self.keys(store.folder), store.names()), ([], []))
+
+    def test_what_was_there_before_is_not_taken_back(self) -> None:
+        store, far = self.store(), os.path.join(self.folder, "far")
+        os.makedirs(os.path.join(far, "drafts"))
+        os.makedirs(os.path.join(store.folder, "a", "c"))
+        os.makedirs(os.path.join(store.folder, "a", "drafts"))
+        os.symlink(far, os.path.join(store.folder, "link"))
+        with open(os.path.join(store.folder, "a", "c", "0"), "w", encoding="utf-8") as file:
+            file.write("dear")
+        with mock.patch("os.fsync", side_effect=OSError(28, "No space left on device")):
+            for name in ("a", "link"):
+                self.assertRaises(cengmoat.StoreFailed, store.save, name, np.arange(4, dtype="int8"), 2)
+        with open(os.path.join(store.folder, "a", "c", "0"), encoding="utf-8") as file:
+            self.assertEqual(file.read(), "dear")
+        self.assertEqual(sorted(os.listdir(os.path.join(store.folder, "a"))), ["c", "drafts"])
+        self.assertEqual((self.keys(store.folder), os.listdir(far)), (["a/c/0"], ["drafts"]))
 
     def test_other_writers(self) -> None:
         folder = os.path.join(self.folder, "other")
@@ -207,6 +240,10 @@ class BadInput(Case):
             self.assertRaises(IndexError, call)
         for call in (lambda: x + self.x[:, :2], lambda: x.reshape(4), lambda: x.reshape(-1, -1), lambda: x[::0], lambda: x + 2**31,
                      lambda: x.sum(axis=(0, 0)), lambda: xp.squeeze(x, 0), lambda: x @ x, lambda: xp.arange(0, 5, 0), lambda: x.rechunk((1,)),
+                     lambda: np.pad(x, -1), lambda: np.pad(x, ((0, 0), (1, -1))), lambda: np.expand_dims(x, (0, 0)), lambda: x.expand_dims((0, -4)),
+                     lambda: x.rechunk(((2,), (2, 2))), lambda: x.rechunk(((-1,), 3)), lambda: x.rechunk(((1, 1), (3, 0, 0))),
+                     lambda: xp.vecdot(x[0], xp.concat([x, x[:1]]), axis=0), lambda: xp.tensordot(x, x, axes=((0,), (0,), (0,))),
+                     lambda: xp.asarray([1, 300], dtype="int8"), lambda: xp.asarray([[-1]], dtype="uint64"), lambda: xp.asarray((2**64,), dtype="uint64"),
                      lambda: xp.full(3, 300, dtype="int8"), lambda: xp.arange(300, dtype="uint8"), lambda: x[:, :0].max(),
                      lambda: xp.broadcast_to(x, (2, 2)), lambda: xp.concat([]), lambda: x[0].T, lambda: xp.tril(x[0]), lambda: x.rechunk(0),
                      lambda: xp.zeros((-1,), dtype="int8"), lambda: xp.permute_dims(x, (0,)), lambda: xp.arange(70_000, chunks=1),
@@ -215,6 +252,9 @@ class BadInput(Case):
             self.assertRaises(ValueError, call)
         for call in (lambda: x + 0.5, lambda: x + True, lambda: truth + truth, lambda: x & truth, lambda: xp.logical_and(x, x), lambda: x + "a",
                      lambda: x.astype("text"), lambda: x.astype(None), lambda: xp.where(x, x, x), lambda: x.sum(axis=0.5),
+                     lambda: np.pad(x, 1.5), lambda: np.pad(x, "1"), lambda: np.pad(x, True),
+                     lambda: x == [0, 1, 2], lambda: x != (0, 1, 2), lambda: [0, 1, 2] == x, lambda: x == range(3), lambda: x != Fraction(1, 2),
+                     lambda: x == Decimal(1), lambda: [1, 2] < x, lambda: np.equal(x, [1]), lambda: xp.add(x, [1]),
                      lambda: x == 0.5, lambda: x == "a", lambda: x < None, lambda: x.sum(keepdims=1), lambda: xp.add(1, 2), lambda: x + [1, 2],
                      lambda: xp.sum([1, 2]), lambda: x.astype("uint64") + x, lambda: truth < truth, lambda: -truth, lambda: x.argmax(axis=(0,)),
                      lambda: hash(x), lambda: xp.sum(x, dtype="bool"), lambda: cengmoat.compute(3), lambda: cengmoat.to_zarr(3, "a"),
@@ -258,6 +298,15 @@ class Mappings(Case):
         self.assertIn("x.store('new')", str(found.exception))
         self.assertEqual(self.here.names(), ["rain", "snow", "temperature"])
 
+    def test_a_link_that_leads_nowhere_hides_nothing(self) -> None:
+        for name, to in (("loop", "loop"), ("nowhere", "missing")):
+            os.symlink(to, os.path.join(self.here.folder, name))
+        os.makedirs(os.path.join(self.here.folder, "_cubed"))
+        os.symlink("snow", os.path.join(self.here.folder, "_cubed", "snow"))
+        names = ["rain", "snow", "temperature"]
+        self.assertEqual((self.here.names(), [it.name for it in self.here.status()], "rain" in self.here), (names, names, True))
+        self.assertIn("3 arrays", repr(self.here))
+
     def test_near_names(self) -> None:
         for call in (self.here.__getitem__, self.here.read, self.here.remove):
             with self.assertRaises(KeyError) as found:
@@ -281,6 +330,14 @@ class Known(Case):
         self.assertEqual(repr(x), "cengmoat.Array<t, shape=(5, 7), dtype=int16, chunksize=(2, 3), nbytes=70 B, operations=0>")
         for said in ("70 B", "(5, 7)", "(2, 3)", "9 chunks", "int16", "0 operations"):
             self.assertIn(said, x._repr_html_())
+
+    def test_lists_in_a_type(self) -> None:
+        """Each number is in the type as it is, at its ends too."""
+        for dtype in TYPES[1:]:
+            ends = [int(np.iinfo(dtype).min), 1, int(np.iinfo(dtype).max)]
+            found = xp.asarray([ends, [True, np.int8(2), 3]], dtype=dtype)
+            self.assertEqual((found.dtype, found.compute().tolist()), (np.dtype(dtype), [ends, [1, 2, 3]]))
+        self.assertEqual(xp.asarray([], dtype="int8").compute().tolist(), [])
 
     def test_chosen_chunks(self) -> None:
         for shape, dtype in (((4096, 4096), "int64"), ((10**6, 300), "int8"), ((3,), "int8"), ((0, 5), "int8"), ((2**20, 2**20), "int8")):
@@ -324,6 +381,18 @@ class Known(Case):
         for _ in range(60):
             long = long + o
         self.assertLessEqual(len(said(long.node)), 72)
+
+    def test_pickles(self) -> None:
+        """Of the longest expression too, with what is in memory."""
+        t = self.store().save("t", np.ones(3, "int8"), attrs={"units": "K"})
+        lazy = xp.where(t > 0, t, 5) + np.array([1, 2, 3], "int8")
+        while len(cengmoat._nodes.Graph(lazy.node).nodes) < 255:
+            lazy = lazy + lazy
+        for again in (pickle.loads(pickle.dumps(lazy)), copy.deepcopy(lazy), *(pickle.loads(pickle.dumps(lazy, it)) for it in range(2, 6))):
+            graphs = [cengmoat._nodes.Graph(it.node) for it in (lazy, again)]
+            self.assertEqual([node.op for node in graphs[0].nodes], [node.op for node in graphs[1].nodes])
+            self.assertEqual((repr(again), again.attrs, again.node.store.folder), (repr(lazy), lazy.attrs, t.node.store.folder))
+            self.assertEqual(cengmoat._temporary.memory_names(again.node, "y").popitem()[1], cengmoat._temporary.memory_names(lazy.node, "y").popitem()[1])
 
     def test_same_nodes_are_one(self) -> None:
         t = self.store().save("t", np.ones(3, "int8"))

@@ -7,7 +7,7 @@ import numpy as np
 
 from .. import _build as build, _views as views
 from .._array import Array
-from .._dtypes import BOOL, INT64, DType, as_dtype, as_int, as_literal, check_unmasked, is_written
+from .._dtypes import BOOL, INT64, DType, NDArray, as_dtype, as_int, as_literal, check_literal, check_unmasked, is_written
 from .._operators import memory_node, scalar_node
 from .._shapes import ChunksLike, as_chunks, as_shape
 from ._common import FLOATS, check_device, dtype_or, lacks, made_dtype, node_of
@@ -44,6 +44,14 @@ def arange(start: int, /, stop: Optional[int] = None, step: int = 1, *, dtype: A
     return Array(views.arange(_number(first, "start"), _number(end, "stop"), _number(step, "step"), dtype_or(dtype, INT64), chunks))
 
 
+def _listed(obj: Any, dtype: DType) -> NDArray:
+    """Return nested lists of numbers in a type. NumPy would take 1 beside 2**63 for floats, and wrap a number that isn't in the range."""
+    numbers = np.asarray(obj, dtype=object)
+    for number in numbers.flat:
+        check_literal(int(as_literal(number)), dtype, "asarray")
+    return numbers.astype(dtype)
+
+
 def asarray(obj: Any, /, *, dtype: Any = None, device: Any = None, copy: Optional[bool] = None, chunks: ChunksLike = None) -> Array:
     """Return a lazy array of a lazy array, an array in memory, a number or nested lists of numbers.
 
@@ -78,7 +86,8 @@ def asarray(obj: Any, /, *, dtype: Any = None, device: Any = None, copy: Optiona
         default = np.asarray(obj).dtype if isinstance(obj, np.generic) else BOOL if isinstance(value, bool) else INT64
         return Array(scalar_node(value, dtype_or(dtype, default)))
     check_unmasked(obj)
-    data = np.asarray(obj)
+    is_listed = isinstance(obj, (list, tuple)) and dtype is not None and as_dtype(dtype) != BOOL
+    data = _listed(obj, as_dtype(dtype)) if is_listed else np.asarray(obj)
     if data.dtype == object or (data.size == 0 and not isinstance(obj, np.ndarray) and dtype is None):
         raise TypeError(f"an array of {data.dtype} isn't one of integers or truth values: say dtype= of what is empty")
     if dtype is not None and data.size == 0:

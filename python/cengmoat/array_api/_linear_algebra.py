@@ -56,6 +56,8 @@ def tensordot(x1: Array, x2: Array, /, *, axes: Union[int, tuple[Sequence[int], 
             raise ValueError(f"axes {axes}: the arrays have {len(left.shape)} and {len(right.shape)} axes")
         ours, others = list(range(len(left.shape) - axes, len(left.shape))), list(range(axes))
     else:
+        if len(axes) != 2:
+            raise ValueError(f"axes {axes}: the axes of each of two arrays are wanted")
         ours, others = ([one_axis(at, len(node.shape), "axes") for at in ((given,) if isinstance(given, int) else given)]
                         for given, node in zip(axes, (left, right)))
     if len(ours) != len(others) or any(left.shape[one] != right.shape[other] for one, other in zip(ours, others)):
@@ -84,7 +86,8 @@ def vecdot(x1: Array, x2: Array, /, *, axis: int = -1) -> Array:
     left, right = node_of(x1, "x1"), node_of(x2, "x2")
     if BOOL in (left.dtype, right.dtype):
         raise TypeError("vecdot takes integers, and not bool: convert with astype")
-    sizes = [node.shape[one_axis(axis, len(node.shape))] for node in (left, right)]
+    ndim = max(len(left.shape), len(right.shape))
+    sizes = [((1,) * (ndim - len(node.shape)) + node.shape)[one_axis(axis, ndim)] for node in (left, right)]
     if sizes[0] != sizes[1]:
         raise ValueError(f"vecdot: the sizes {sizes[0]} and {sizes[1]} along axis {axis} differ")
     products = build.elementwise("multiply", [left, right])
