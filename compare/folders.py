@@ -287,6 +287,7 @@ def of_others():
     lines = "op 0 map node=2 tasks=2 cells=2 projected=1600\nplan ops=1 tasks=2 cells=2 peak=1600"
     yield Row("plan", lambda room: None, 0, lines, set(), ("plan",))
     yield Row("plan, and DIR is missing", instead("missing"), *error(8, name="a"), words=("plan",))
+    yield Row("plan, and DIR is a file", instead("beside/chunk"), *error(8, name="a"), words=("plan",), beside=True)
     yield Row("plan, and 1599 bytes are allowed", lambda room: None, *error(5, node=2, need=1600, allowed=1599), words=("plan", "--allowed-mem", "1599"))
     yield Row("plan, and standard output is full", lambda room: None, *error(12), words=("plan",), streams=(FULL,))
     yield Row("print", lambda room: None, 0, f"{head}\n1 2 3 4 5 6", set(), ("print", "a"))
