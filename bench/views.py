@@ -20,7 +20,7 @@ With --workers it computes the views along strides alone, by one worker and by s
 in this folder), by one process and by as many. The loops go over the same chunk files, one nest over the axes of each chunk's view, and sync
 each file before its rename. Which comes first changes at each round, and what they store is compared byte by byte with what the program has.
 It prints the least times, how many times as fast the workers are as one and the processes as one, and how much of this gain the workers
-have, by the least times and by the median of the rounds, and last where that misses its aim.
+have, by the least times and by the median of the rounds, in each view and in all together, and last where that misses its aim.
 """
 import argparse
 import itertools
@@ -383,15 +383,14 @@ def measure_strided(given, name, view):
 
 
 def measure_gain(given, name, view):
-    """Measures what several workers gain over one in a view along strides. Returns the aims that were missed."""
+    """Measures what several workers gain over one in a view along strides. Returns what was measured of each way."""
     count = view.count(given.mebibytes)
     with tempfile.TemporaryDirectory(dir=given.dir, prefix="cubed-bench-") as folder:
         view.make_input(folder, count)
         ways = workers.ways_of_program(given, folder, view.words)
         if given.loops:
             ways.update(workers.ways_of_loops(given, folder, name, count))
-        told = workers.measure(given, ways, folder, name, view.expression(count))
-    return workers.tell(given, name, told, {})
+        return workers.measure(given, ways, folder, name, view.expression(count))
 
 
 def run_peer(peer, name, folder, count):
@@ -430,7 +429,12 @@ def measure_gains(given):
           f" in {given.dir}, load {os.getloadavg()[0]:.1f}")
     with tempfile.TemporaryDirectory(prefix="cubed-build-") as made:
         given.loops = compiled_loops(made) if given.c else None
-        return [one for name, view in STRIDED.items() if is_wanted(given, name) for one in measure_gain(given, name, view)]
+        told, missed = [], []
+        for name, view in STRIDED.items():
+            if is_wanted(given, name):
+                told.append(measure_gain(given, name, view))
+                missed += workers.tell(given, name, told[-1], {})
+    return missed + (workers.tell_together("all these views", told) if len(told) > 1 else [])
 
 
 def main():

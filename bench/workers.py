@@ -192,12 +192,27 @@ def tell(given, name, told, aims):
             print(f"    {told_as(given, many)} beside {told_as(given, way)}: {least:.2f} times as fast (median of the rounds {median:.2f}{f'; aim {aim:.3g}' if aim else ''})", flush=True)
             if least < aim:
                 missed.append(f"{name} beside {way}: {least:.2f} for {aim:.3g}")
-    if LOOPS in told:
-        gained, by_loops = times_as_fast(told[MANY], told[ONE]), times_as_fast(told[LOOPS], told[LOOP])
-        least, median = (own / other for own, other in zip(gained, by_loops))
-        print(f"    the workers' gain beside that of the processes of C: {least:.2f} (median of the rounds {median:.2f}; aim {GAIN_AIM})", flush=True)
-        missed += [f"{name}, gain beside {LOOPS}: {least:.2f} (median {median:.2f}) for {GAIN_AIM}"] if min(least, median) < GAIN_AIM else []
-    return missed
+    return missed + tell_gain(name, told)
+
+
+def tell_gain(name, told):
+    """Prints how much of what the processes of the plain loops gain over one the workers gain, if the loops ran. Returns whether it
+    missed its aim."""
+    if LOOPS not in told:
+        return []
+    gained, by_loops = times_as_fast(told[MANY], told[ONE]), times_as_fast(told[LOOPS], told[LOOP])
+    least, median = (own / other for own, other in zip(gained, by_loops))
+    print(f"    the workers' gain beside that of the processes of C: {least:.2f} (median of the rounds {median:.2f}; aim {GAIN_AIM})", flush=True)
+    return [f"{name}, gain beside {LOOPS}: {least:.2f} (median {median:.2f}) for {GAIN_AIM}"] if min(least, median) < GAIN_AIM else []
+
+
+def tell_together(name, works):
+    """Prints what was measured of several works together, whose times are added round by round. Returns which aims this missed."""
+    told = {way: Told() for way in works[0]}
+    for way, one in told.items():
+        one.seconds = [sum(seconds) for seconds in zip(*(work[way].seconds for work in works))]
+    print(f"  {name}: " + ", ".join(f"{way} {min(one.seconds):.3f} s" for way, one in told.items()), flush=True)
+    return tell_gain(name, told)
 
 
 def loops_of(given, folder):
