@@ -42,6 +42,9 @@ const LARGE_ROWS: u64 = 512;
 /// So many rows of the target are written at a time: not more than a processor prefetches.
 const GROUP: u64 = 16;
 
+/// Rows of more bytes are long.
+const LONG_BYTES: u64 = 64;
+
 /// A block of so many rows and columns that are neighbours is copied without a tile.
 const BLOCK: u64 = 32;
 
@@ -266,7 +269,11 @@ fn copy_counted<const N: usize>(
 
 /// An axis of strides that go up.
 #[inline(always)]
-fn rising(count: u64, from: u64, to: u64) -> Axis {
+fn rising(count: u64, from: u64, to: u64) -> Axis
+    ensures count { result.count ≡ count }
+    ensures from { result.from ≡ Stride.Up from }
+    ensures to { result.to ≡ Stride.Up to }
+{
     Axis {
         count,
         from: Stride::Up(from),
@@ -531,10 +538,26 @@ fn copy_rows_of<const N: usize>(order: Endian, plane: Plane, source: &[u8], targ
 {
     if is_dense(plane.inner) {
         let bytes = plane.inner.count * N as u64;
-        copy_runs::<N>(order, bytes, plane, source, target);
+        match order {
+            Endian::Big if bytes > LONG_BYTES => copy_reversed_rows::<N>(plane, source, target),
+            _ => copy_runs::<N>(order, bytes, plane, source, target),
+        }
     } else {
         copy_lines::<N>(order, plane, source, target);
     }
+}
+
+/// Long rows whose elements follow one another, with the bytes of each element reversed: one by one,
+/// so that each is reversed on its way. The order is a literal: else the loop would test it.
+#[inline(never)]
+fn copy_reversed_rows<const N: usize>(plane: Plane, source: &[u8], target: &mut [u8])
+    requires can { CanCopy N (plane_axes plane) plane.start source.now (length target.old) }
+    requires some { 0 < plane.inner.count }
+    requires dense { IsDenseAxis plane.inner }
+    ensures { IsStridedCopy N Endian.Big (plane_axes plane) plane.start source.now target.old target.new }
+{
+    let next = rising(plane.inner.count, 1, 1);
+    copy_going::<N>(Endian::Big, plane, plane.outer, next, source, target);
 }
 
 /// The same for a tile, most of whose rows have as many elements as a tile can have.
@@ -630,7 +653,7 @@ fn copy_runs<const N: usize>(
         3 => copy_each_run::<N>(order, 3, plane, source, target),
         4 => copy_each_run::<N>(order, 4, plane, source, target),
         6 => copy_each_run::<N>(order, 6, plane, source, target),
-        8 => copy_each_run::<N>(order, 8, plane, source, target),
+        8 => copy_eights::<N>(order, plane, source, target),
         12 => copy_each_run::<N>(order, 12, plane, source, target),
         16 => copy_each_run::<N>(order, 16, plane, source, target),
         24 => copy_each_run::<N>(order, 24, plane, source, target),
@@ -638,6 +661,22 @@ fn copy_runs<const N: usize>(
         48 => copy_each_run::<N>(order, 48, plane, source, target),
         64 => copy_each_run::<N>(order, 64, plane, source, target),
         _ => copy_each_run::<N>(order, bytes, plane, source, target),
+    }
+}
+
+/// The same of rows of 8 bytes. Their order is a literal in the loops: else the compiler would move
+/// them byte by byte.
+#[inline(never)]
+fn copy_eights<const N: usize>(order: Endian, plane: Plane, source: &[u8], target: &mut [u8])
+    requires can { CanCopy N (plane_axes plane) plane.start source.now (length target.old) }
+    requires some { 0 < plane.inner.count }
+    requires dense { IsDenseAxis plane.inner }
+    requires bytes { 8 ≡ plane.inner.count * N }
+    ensures { IsStridedCopy N order (plane_axes plane) plane.start source.now target.old target.new }
+{
+    match order {
+        Endian::Little => copy_each_run::<N>(Endian::Little, 8, plane, source, target),
+        Endian::Big => copy_each_run::<N>(Endian::Big, 8, plane, source, target),
     }
 }
 
