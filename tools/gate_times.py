@@ -1,7 +1,9 @@
 #!/usr/bin/env python3
 """Runs the merge gate and prints the processor minutes of each crate: its proof with what is built of it, its tests, its refused edits.
 
-usage: tools/gate_times.py
+usage: tools/gate_times.py [--write]
+
+--write puts the table into bench/GATE.md, with the day, the processors and the version of the toolchain.
 
 It looks four times a second at the prover's processes and adds up what each has used, so that what ends sooner is missed; the last line
 has the time of all that the gate began, as the system counts it. What earlier runs on this machine kept isn't done again and isn't
@@ -9,6 +11,7 @@ in the table: from nothing means on a machine, or over a folder of kept work, th
 the same time are counted too, so it is to run alone.
 """
 import collections
+import datetime
 import os
 import re
 import subprocess
@@ -16,6 +19,8 @@ import sys
 import time
 
 TOP = os.path.dirname(os.path.dirname(os.path.realpath(__file__)))
+PAGE = f"{TOP}/bench/GATE.md"
+KINDS = ("proof", "tests", "edits")
 TICKS = os.sysconf("SC_CLK_TCK")
 
 
@@ -55,8 +60,30 @@ def look(used):
             used[name] = (seconds, crate, kind)
 
 
+def table_of(used):
+    """The lines of the table: a row for each crate, the dearest first, and one of all."""
+    sums = collections.defaultdict(collections.Counter)
+    for seconds, crate, kind in used.values():
+        sums[crate][kind] += seconds / 60
+        sums["all"][kind] += seconds / 60
+    rows = sorted(sums, key=lambda name: (name == "all", -sum(sums[name].values())))
+    return ["| crate | proof | tests | edits |", "|---|---|---|---|",
+            *(f"| {crate} | " + " | ".join(f"{sums[crate][kind]:.1f}" for kind in KINDS) + " |" for crate in rows)]
+
+
+def write(lines, last):
+    """Puts the table into its page, behind what is said there of any measure."""
+    version = subprocess.run(["rt", "version"], stdout=subprocess.PIPE, text=True, check=False).stdout.split("\n")[0]
+    said = f"Measured on {datetime.date.today()} on {os.cpu_count()} processors, with `{version}`: {last}."
+    with open(PAGE, encoding="utf-8") as page:
+        head = page.read().partition("\n## ")[0].rstrip()
+    with open(PAGE, "w", encoding="utf-8") as page:
+        page.write("\n".join([head, "", "## By crate", "", said, "", *lines, ""]))
+
+
 def main():
-    if len(sys.argv) > 1:
+    words = sys.argv[1:]
+    if words not in ([], ["--write"]):
         print(__doc__, file=sys.stderr)
         return 2
     used, began = {}, time.monotonic()
@@ -64,15 +91,12 @@ def main():
     while gate.poll() is None:
         look(used)
         time.sleep(0.25)
-    sums = collections.defaultdict(collections.Counter)
-    for seconds, crate, kind in used.values():
-        sums[crate][kind] += seconds / 60
-        sums["all"][kind] += seconds / 60
-    print("| crate | proof | tests | edits |\n|---|---|---|---|")
-    for crate in sorted(sums, key=lambda name: -sum(sums[name].values())):
-        print(f"| {crate} | " + " | ".join(f"{sums[crate][kind]:.1f}" for kind in ("proof", "tests", "edits")) + " |")
-    whole = os.times()
-    print(f"{(whole.children_user + whole.children_system) / 60:.1f} processor minutes in {(time.monotonic() - began) / 60:.1f}")
+    lines, whole = table_of(used), os.times()
+    last = f"{(whole.children_user + whole.children_system) / 60:.1f} processor minutes in {(time.monotonic() - began) / 60:.1f}"
+    print("\n".join(lines))
+    print(last)
+    if words and gate.returncode == 0:
+        write(lines, last)
     return gate.returncode
 
 

@@ -25,6 +25,7 @@ import unittest
 sys.dont_write_bytecode = True
 from test_base import TOP, InFolder, files_in, put, rules, run
 from test_calls import *  # noqa: F403
+from test_documents import *  # noqa: F403
 from test_hostile import *  # noqa: F403
 from test_loops import *  # noqa: F403
 import folder as folder_commands
