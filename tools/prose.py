@@ -16,7 +16,7 @@ import re
 import sys
 
 TOP = os.path.dirname(os.path.dirname(os.path.realpath(__file__)))
-PAGES = ("README.md", "docs/*.md", "bench/README.md", "compare/README.md", "crates/*/README.md", "python/README.md", "tools/README.md")
+PAGES = ("*.md", "docs/*.md", "bench/README.md", "compare/README.md", "crates/*/README.md", "python/README.md", "tools/README.md")
 FEWEST = 4
 
 
