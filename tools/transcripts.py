@@ -11,7 +11,7 @@ one page run one after another in one new folder, which is laid out as an archiv
 - a command inside a sentence (`./cubed scratch ..`) must be one of those that run, or have a word in capitals in it;
 - a block of Python whose first line is `# needs MODULE..`, or that imports the package `cengmoat`, must end with status 0, if what it
   needs is there;
-- each operator's example in the table of the guide must be accepted by `plan`.
+- each operator's example in the table of docs/OPERATORS.md must be accepted by `plan`.
 What needs a module that isn't there is left out, and a line says so.
 """
 import argparse
