@@ -1,11 +1,11 @@
 -- From a folder that was lent to what a depot shares, and back.
-use Rattle.std.proofs.Common.{◌≡◌, ◌⊎◌, inl, inr, ◌↔◌, ℕ, Bool, true, false, IsTrue, ◌&&◌, List, [], Option, Some, None, IsSome, refl, sym, ap, ◌∙◌, rules}
+use Rattle.std.proofs.Common.{◌≡◌, inl, inr, ◌↔◌, ℕ, Bool, true, false, IsTrue, ◌&&◌, List, [], Option, Some, None, IsSome, refl, sym, ap, ◌∙◌, rules}
 use Rattle.std.specs.Prelude.{Result, Ok, Err, IfOk}
 use Rattle.std.specs.declared.io.Error.{Error}
 use Rattle.cu_store.specs.Held.{Contents}
 use Rattle.cu_store.specs.Share.{Lent, ServesAs, HasSeenHeld, IsShared, PutPromised}
 use Rattle.cu_store.specs.Steps.{Shown, OrLate, Lands}
-use Rattle.cu_store.specs.Yard.{is_made, is_served}
+use Rattle.cu_store.specs.Yard.{is_made}
 use Rattle.cu_store.specs.declared.yard.Spec.{Spec}
 use Rattle.cu_store.proofs.Specs.{made_is_served}
 use Rattle.cu_dir.specs.Common.{KnowsOf, IsLentAs, IsPutUnder, is_there, seen_of, served_as}

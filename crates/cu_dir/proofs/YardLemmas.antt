@@ -1,5 +1,5 @@
 -- What the calls of a yard over a folder in common do to what a pass shows.
-use Rattle.std.proofs.Common.{◌≡◌, ◌⊎◌, inl, inr, ℕ, Bool, true, false, IsTrue, ◌&&◌, ◌||◌, if◌then◌else◌, List, [], Option, Some, None, refl, sym, ◌∙◌, rules}
+use Rattle.std.proofs.Common.{◌≡◌, ◌⊎◌, inl, inr, ℕ, Bool, true, false, IsTrue, ◌&&◌, ◌||◌, if◌then◌else◌, List, [], Option, Some, None, refl, sym, ◌∙◌}
 use Rattle.std.specs.Prelude.{Result, Ok, Err}
 use Rattle.std.specs.declared.io.Error.{Error}
 use Rattle.cu_store.specs.Held.{Contents, Gets, Holds}
@@ -10,7 +10,7 @@ use Rattle.cu_store.specs.declared.depot.Got.{Got}
 use Rattle.cu_store.specs.declared.depot.Got.TheVariants.{Absent, Held}
 use Rattle.cu_store.specs.declared.faults.DepotFault.{DepotFault}
 use Rattle.cu_store.specs.declared.yard.Spec.{Spec}
-use Rattle.cu_dir.specs.Common.{KnowsOf, LearnsAt, Unites, is_there, seen_of, told_with}
+use Rattle.cu_dir.specs.Common.{KnowsOf, LearnsAt, IsUnion, is_there, seen_of, told_with}
 use Rattle.cu_dir.specs.Depot.{AnswersAs}
 use Rattle.cu_dir.specs.Tree.{ReadsFile}
 use Rattle.cu_dir.specs.YardLaws.{there}
@@ -81,9 +81,9 @@ get_lands l (Some e) (Some old) (Some new) asked knows learned may = λ key.
     elim (learned key) [
       | inl same ↦ inl (rw same refl)
       | inr put ↦
-        let before : seen_of l.specs (Some old) key ≡ true = rw put.0 (may (rw (← put.0) put.1.2)) in
-        let after : seen_of l.specs (Some new) key ≡ true = sees l new key put.1.0 put.1.2 put.1.1 in
-        inl (rw (before, after) refl)
+          let before : seen_of l.specs (Some old) key ≡ true = rw put.0 (may (rw (← put.0) put.1.2)) in
+          let after : seen_of l.specs (Some new) key ≡ true = sees l new key put.1.0 put.1.2 put.1.1 in
+          inl (rw (before, after) refl)
     ]
 
 -- a put shows nothing else but its bytes
@@ -97,8 +97,8 @@ put_lands l (Some e) (Some old) (Some new) asked bytes knows learned promised = 
     elim (learned key) [
       | inl same ↦ inl (rw same refl)
       | inr put ↦
-        let after : seen_of l.specs (Some new) key ≡ true = sees l new key put.1.0 put.1.2 put.1.1 in
-        inr (inl (put.0, rw after (rw put.0 promised)))
+          let after : seen_of l.specs (Some new) key ≡ true = sees l new key put.1.0 put.1.2 put.1.1 in
+          inr (inl (put.0, rw after (rw put.0 promised)))
     ]
 
 pub put_seen : (l : Lent) (known : Option Contents) (key bytes : List ℕ) → Holds known key bytes → IsTrue (is_made l.specs key)
@@ -116,12 +116,12 @@ apart_or : (made a b : Bool) → (made && (a || b)) ≡ ((made && a) || (made &&
 apart_or true a b = refl
 apart_or false a b = refl
 
-pub join_seen : (specs : List Spec) (a b both : Option Contents) (key : List ℕ) → Unites a b both
+pub join_seen : (specs : List Spec) (a b both : Option Contents) (key : List ℕ) → IsUnion a b both
     → seen_of specs both key ≡ (seen_of specs a key || seen_of specs b key)
-join_seen specs None None None key unites = refl
-join_seen specs (Some a) (Some b) (Some both) key unites =
-    rw (unites key) (apart_or (is_made specs key) (is_there (a key)) (is_there (b key)))
-join_seen specs None None (Some both) key unites = absurd unites
-join_seen specs None (Some b) both key unites = absurd unites
-join_seen specs (Some a) None both key unites = absurd unites
-join_seen specs (Some a) (Some b) None key unites = absurd unites
+join_seen specs None None None key union = refl
+join_seen specs (Some a) (Some b) (Some both) key union =
+    rw ((union key).1) (apart_or (is_made specs key) (is_there (a key)) (is_there (b key)))
+join_seen specs None None (Some both) key union = absurd union
+join_seen specs None (Some b) both key union = absurd union
+join_seen specs (Some a) None both key union = absurd union
+join_seen specs (Some a) (Some b) None key union = absurd union

@@ -28,11 +28,12 @@ pub record KnowsOf (l : Lent) (entries known : Option Contents) : Type 0 where
 abbrev pub LearnsAt : Lent → List ℕ → Option Contents → Option Contents → Type 0
 LearnsAt l asked = Lands (λ key value. (key ≡ asked) × PutPromised l key value)
 
--- what either knows to be there
-abbrev pub Unites : Option Contents → Option Contents → Option Contents → Type 0
-Unites None None None = Unit {0}
-Unites (Some a) (Some b) (Some both) = (key : List ℕ) → is_there (both key) ≡ (is_there (a key) || is_there (b key))
-Unites a b both = ⊥
+-- There is what either has, wherever either has something.
+abbrev pub IsUnion : Option Contents → Option Contents → Option Contents → Type 0
+IsUnion None None None = Unit {0}
+IsUnion (Some a) (Some b) (Some both) = (at : List ℕ)
+    → ((both at ≡ a at) ⊎ (both at ≡ b at)) × (is_there (both at) ≡ (is_there (a at) || is_there (b at)))
+IsUnion a b both = ⊥
 
 -- under each key that is lent there is the same, where the values are told
 abbrev pub IsLentAs : List Spec → Option Contents → Option Contents → Type 0

@@ -5,7 +5,7 @@ ghost use Rattle.cu_store.specs.Share.{Lent, KeysDiffer, IsPromiseOf, HoldsPromi
 ghost use Rattle.cu_store.specs.Yard.{MayPut, bytes_under};
 ghost use Rattle.cu_dir.specs.Names.{IsFileKey};
 ghost use Rattle.cu_dir.specs.Tree.{ReadsFile, values_under};
-ghost use Rattle.cu_dir.specs.Common.{KnowsOf, LearnsAt, Unites, served_as, seen_of, IsLentAs, IsPutUnder};
+ghost use Rattle.cu_dir.specs.Common.{KnowsOf, LearnsAt, IsUnion, served_as, seen_of, IsLentAs, IsPutUnder};
 
 use crate::keys::Keys;
 use crate::tree::Tree;
@@ -69,7 +69,7 @@ pub trait Common {
     fn join(&self, hand: &mut Self::Hand, other: Self::Hand)
         requires { owns self.now hand.old × owns self.now other }
         ensures own { owns self.now hand.new }
-        ensures both { Unites (known hand.old) (known other) (known hand.new) };
+        ensures both { IsUnion (known hand.old) (known other) (known hand.new) };
 }
 
 /// A tree of which a folder can be lent to several workers.

@@ -13,5 +13,5 @@ returns-clause-shared g c =
     let asked : Lent = record { specs = c.in-Ok.keys; promise = bytes_under c.args.promise.now.map } in
     let lent = settled c.lend-answer.result (c.in_ok-common.common, c.in_ok-common.hand) (λ r. g.T.Common.Common.lent r.0 ≡ asked) answered lend.lent in
     let known = settled c.lend-answer.result (c.in_ok-common.common, c.in_ok-common.hand)
-        (λ r. IsLentAs c.in-Ok.keys (values_under c.as_str.result.now (g.T.Tree.files c.args.self.now.tree)) (g.T.Common.Common.known r.1)) answered lend.known in
+    (λ r. IsLentAs c.in-Ok.keys (values_under c.as_str.result.now (g.T.Tree.files c.args.self.now.tree)) (g.T.Common.Common.known r.1)) answered lend.known in
     rw (sym c.in-Ok.ensures, sym lent) (c.open.ensures.shared _ (rw (lent, lend.kept, sym c.as_str.ensures.value) known))
