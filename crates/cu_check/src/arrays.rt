@@ -18,7 +18,7 @@ use cu_mean::Plain;
 use cu_name::key_of_name;
 use cu_num::{Dtype, load, size};
 use cu_op::{ArrayInfo, Layout};
-use cu_store::{Depot, NoMemory};
+use cu_store::{NoMemory, PutStore};
 use std::alloc::Global;
 
 /// The number of elements of a stored array.
@@ -36,7 +36,7 @@ pub(crate) fn element_count(layout: &Layout) -> u64
 
 /// All elements of a stored array, row-major and little-endian. Each chunk is read once, in row-major order, with at most
 /// `retries + 1` calls.
-pub(crate) fn read_array<D: Depot>(
+pub(crate) fn read_array<D: PutStore>(
     alloc: Global,
     depot: &mut D,
     array: &InputInfo,
@@ -105,7 +105,7 @@ fn numbers_of(
 }
 
 /// Reads a stored array element by element.
-pub(crate) fn read_plain<D: Depot>(
+pub(crate) fn read_plain<D: PutStore>(
     alloc: Global,
     depot: &mut D,
     array: &InputInfo,

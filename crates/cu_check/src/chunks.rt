@@ -17,7 +17,7 @@ use cu_grid::Region;
 use cu_num::{Endian, size};
 use cu_op::{ArrayInfo, Layout};
 use cu_shape::{Dims, difference};
-use cu_store::Depot;
+use cu_store::PutStore;
 
 /// Copies the elements of a chunk to their places among the bytes of the whole array.
 fn place_chunk(layout: &Layout, coord: &Dims, chunk: &[u8], all: &mut [u8])
@@ -43,7 +43,7 @@ fn place_chunk(layout: &Layout, coord: &Dims, chunk: &[u8], all: &mut [u8])
 }
 
 /// Reads chunk number `number`, row-major, and copies its elements to their places.
-fn read_numbered<D: Depot>(
+fn read_numbered<D: PutStore>(
     depot: &mut D,
     info: &ArrayInfo,
     number: u64,
@@ -74,7 +74,7 @@ fn read_numbered<D: Depot>(
 
 /// Reads all chunks of a stored array in row-major order, each with at most `retries + 1` calls, into the bytes of all its elements,
 /// row-major and little-endian. An absent chunk reads as the fill value. `chunk` has the bytes of a chunk.
-pub(crate) fn read_chunks<D: Depot>(
+pub(crate) fn read_chunks<D: PutStore>(
     depot: &mut D,
     info: &ArrayInfo,
     retries: u32,

@@ -15,7 +15,7 @@ use crate::metadata::{Compared, read_compared};
 use crate::report::report;
 use cu_command::{Status, StreamRefused, read_all};
 use cu_mean::{Plains, whole};
-use cu_store::{Depot, Sink, Source};
+use cu_store::{PutStore, Sink, Source};
 use std::alloc::Global;
 
 /// What is answered where the elements differ.
@@ -31,7 +31,7 @@ fn unequal(difference: &Difference) -> Status
 
 /// Reads the arrays of the input nodes, in node order, and the output, and compares the output's elements with those that the expression
 /// means.
-fn compare_output<D: Depot>(
+fn compare_output<D: PutStore>(
     alloc: Global,
     depot: &mut D,
     compared: &Compared,
@@ -70,7 +70,7 @@ fn compare_output<D: Depot>(
 }
 
 /// Compares the stored output of the expression of a text, and writes the line.
-fn check_text<W: Sink, D: Depot>(
+fn check_text<W: Sink, D: PutStore>(
     alloc: Global,
     retries: u32,
     text: &[u8],
@@ -112,7 +112,7 @@ fn check_text<W: Sink, D: Depot>(
 /// place, row-major, the elements differ; the first such place. `WriteFault`: the sink failed. Nothing is written to the depot.
 ///
 /// It takes 16 bytes for each element of each node, and a chunk.
-pub fn check<R: Source, W: Sink, D: Depot>(
+pub fn check<R: Source, W: Sink, D: PutStore>(
     alloc: Global,
     retries: u32,
     src: &mut R,

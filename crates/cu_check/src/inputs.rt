@@ -14,11 +14,11 @@ use crate::arrays::read_plain;
 use cu_command::Status;
 use cu_expr::{Expr, Form, InputInfo, layout_named};
 use cu_mean::Plain;
-use cu_store::Depot;
+use cu_store::PutStore;
 use std::alloc::Global;
 
 /// Reads the array of a node and adds it, where the node is an input.
-fn read_node<D: Depot>(
+fn read_node<D: PutStore>(
     alloc: Global,
     depot: &mut D,
     inputs: &[InputInfo],
@@ -54,7 +54,7 @@ fn read_node<D: Depot>(
 }
 
 /// Reads the arrays of an expression's input nodes, one for each node, in node order.
-pub(crate) fn read_nodes<D: Depot>(
+pub(crate) fn read_nodes<D: PutStore>(
     alloc: Global,
     depot: &mut D,
     expr: &Expr,

@@ -14,7 +14,7 @@ use cu_command::{
 use cu_expr::{Expr, InputInfo, NodeInfo, Types, typing_law};
 use cu_op::Layout;
 use cu_read::ExprText;
-use cu_store::Depot;
+use cu_store::PutStore;
 use std::alloc::Global;
 
 /// The most elements that are compared, those of all nodes together.
@@ -31,7 +31,7 @@ pub struct Compared {
 }
 
 /// Reads the metadata of the output, of version 3 alone, as which it is stored.
-fn read_output<D: Depot>(
+fn read_output<D: PutStore>(
     alloc: Global,
     depot: &mut D,
     expr: &Expr,
@@ -51,7 +51,7 @@ fn read_output<D: Depot>(
 }
 
 /// Reads the expression of a text, the metadata of its inputs and then of its output, and types it.
-fn read_typed<D: Depot>(
+fn read_typed<D: PutStore>(
     alloc: Global,
     depot: &mut D,
     text: &[u8],
@@ -136,7 +136,7 @@ fn check_output(job: &Job, output: &InputInfo) -> Result<(), Status>
 
 /// Reads what is compared, and tests it. The faults come in this order: the text's; that metadata of the inputs, or then of the output,
 /// isn't read; the types'; that the output has another type or shape; and that there are too many elements.
-pub(crate) fn read_compared<D: Depot>(
+pub(crate) fn read_compared<D: PutStore>(
     alloc: Global,
     depot: &mut D,
     text: &[u8],

@@ -10,10 +10,10 @@ use cu_codec::chunk_key;
 use cu_op::ArrayInfo;
 use cu_region::read_chunk;
 use cu_shape::Dims;
-use cu_store::{Depot, InDepot, Key, TaskFault};
+use cu_store::{InDepot, Key, PutStore, TaskFault};
 
 /// Reads a chunk once.
-fn read_once<D: Depot>(
+fn read_once<D: PutStore>(
     depot: &mut D,
     info: &ArrayInfo,
     coord: &Dims,
@@ -54,7 +54,7 @@ fn read_end(fault: &TaskFault, key: &Key) -> Status
 
 /// Reads the chunk at this coordinate, row-major and little-endian, with at most `retries + 1` calls of the depot. `chunk` has the
 /// bytes of a chunk. An absent chunk reads as the fill value.
-pub fn read_stored_chunk<D: Depot>(
+pub fn read_stored_chunk<D: PutStore>(
     depot: &mut D,
     info: &ArrayInfo,
     coord: &Dims,

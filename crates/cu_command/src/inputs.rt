@@ -14,7 +14,7 @@ use crate::job::JobFault;
 use crate::stored::{find_layout, metadata_room, read_layout};
 use cu_expr::{Expr, Form, InputInfo};
 use cu_name::{IdText, key_of_name};
-use cu_store::Depot;
+use cu_store::PutStore;
 use std::alloc::Global;
 
 /// Whether an input has this name.
@@ -40,7 +40,7 @@ fn metadata_fault(status: Status) -> JobFault
 
 /// Reads the metadata of the array with this name, of either version: with at most `retries + 1` calls for each of its two keys.
 /// `room` has the bytes of the longest text of metadata and one more.
-pub fn read_input<D: Depot>(
+pub fn read_input<D: PutStore>(
     alloc: Global,
     depot: &mut D,
     name: &IdText,
@@ -68,7 +68,7 @@ pub fn read_input<D: Depot>(
 
 /// Reads the metadata of the array with this name by its metadata of version 3 alone, as an array is stored here, with at most
 /// `retries + 1` calls. `room` has the bytes of the longest text of metadata and one more.
-pub fn read_written<D: Depot>(
+pub fn read_written<D: PutStore>(
     alloc: Global,
     depot: &mut D,
     name: &IdText,
@@ -95,7 +95,7 @@ pub fn read_written<D: Depot>(
 }
 
 /// Reads the metadata of the array that a node uses, where the node is an input and no node before it uses the same array.
-fn read_next<D: Depot>(
+fn read_next<D: PutStore>(
     alloc: Global,
     depot: &mut D,
     form: &Form,
@@ -133,7 +133,7 @@ fn read_next<D: Depot>(
 
 /// Reads the metadata of the arrays that an expression uses: for the names of its input nodes in node order, each name's once, at
 /// the first node that uses it.
-pub fn read_inputs<D: Depot>(
+pub fn read_inputs<D: PutStore>(
     alloc: Global,
     depot: &mut D,
     expr: &Expr,

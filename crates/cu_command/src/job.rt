@@ -11,7 +11,7 @@ use crate::inputs::read_inputs;
 use cu_expr::{Expr, InputInfo, TypeRefused, Types, type_of};
 use cu_name::IdText;
 use cu_read::{ExprText, ReadRefused, read_expr_text};
-use cu_store::{Depot, Key};
+use cu_store::{Key, PutStore};
 use std::alloc::Global;
 
 /// An expression over stored arrays, with its types.
@@ -97,7 +97,7 @@ pub fn types_in(alloc: Global, expr: &Expr, inputs: &[InputInfo]) -> Result<Type
 /// the text's; then, for the names of the input nodes in node order, each name at the first node that uses it, that all tries of
 /// a call for its metadata failed, that the metadata of both versions is absent, or that it isn't accepted; and then the types'.
 /// Each name's metadata is read once, that of version 2 where that of version 3 is absent.
-pub fn read_job<D: Depot>(
+pub fn read_job<D: PutStore>(
     alloc: Global,
     depot: &mut D,
     text: &[u8],

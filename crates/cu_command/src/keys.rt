@@ -5,10 +5,10 @@ ghost use Rattle.cu_store.specs.Steps.{NoChange, PutOf, Steps, OnceEach};
 ghost use Rattle.cu_command.specs.Keys.{IsKeyFault, IsValueUnput};
 
 use crate::Status;
-use cu_store::{Depot, DepotFault, Key, has_tries, put_tries};
+use cu_store::{DepotFault, Key, PutStore, has_tries, put_tries};
 
 /// Whether a key is held.
-pub fn ask_key<D: Depot>(depot: &mut D, key: &Key, retries: u32) -> Result<bool, Status>
+pub fn ask_key<D: PutStore>(depot: &mut D, key: &Key, retries: u32) -> Result<bool, Status>
     ensures absent { IfOk result (λ held. held ≡ false → IsGone (D.shown depot.new).held key.now) }
     ensures held { IfOk result (λ held. held ≡ true → IsHeldIn (D.shown depot.new).held key.now) }
     ensures step { Steps NoChange 1 (retries + 1) (D.shown depot.old) (D.shown depot.new) }
@@ -23,7 +23,7 @@ pub fn ask_key<D: Depot>(depot: &mut D, key: &Key, retries: u32) -> Result<bool,
 }
 
 /// Stores the value of a key. Where memory is wanted and no call failed, nothing is stored.
-pub fn put_value<D: Depot>(
+pub fn put_value<D: PutStore>(
     depot: &mut D,
     key: &Key,
     bytes: &[u8],

@@ -11,7 +11,7 @@ use cu_codec::{metadata_key, zarray_key};
 use cu_meta::{MetaFault, MetaRefused, read_meta};
 use cu_name::name_of;
 use cu_op::Layout;
-use cu_store::{Depot, DepotFault, Got, Key, NoMemory, get_tries};
+use cu_store::{DepotFault, Got, Key, NoMemory, PutStore, get_tries};
 use cu_v2::{V2Refused, fault_code, read_zarray};
 use std::alloc::Global;
 
@@ -55,7 +55,7 @@ pub fn zeros(alloc: Global, len: usize) -> Result<Vec<u8>, NoMemory>
 }
 
 /// Reads the text of metadata of the array with this name that this key holds, and says how many bytes of it `buf` has: all, or as many as it has room for.
-fn read_text<D: Depot>(
+fn read_text<D: PutStore>(
     depot: &mut D,
     name: &Key,
     key: &Key,
@@ -121,7 +121,7 @@ fn zarray_in(alloc: Global, name: &Key, text: &[u8]) -> Result<Layout, Status>
 }
 
 /// The layout of the array with this name, by its metadata of version 3. `buf` has room for the longest text.
-pub fn read_layout<D: Depot>(
+pub fn read_layout<D: PutStore>(
     alloc: Global,
     depot: &mut D,
     name: &Key,
@@ -144,7 +144,7 @@ pub fn read_layout<D: Depot>(
 }
 
 /// The layout of the array with this name, by its metadata of version 2.
-fn read_layout_of_v2<D: Depot>(
+fn read_layout_of_v2<D: PutStore>(
     alloc: Global,
     depot: &mut D,
     name: &Key,
@@ -168,7 +168,7 @@ fn read_layout_of_v2<D: Depot>(
 
 /// The layout of the array with this name, of either version: by its metadata of version 3, and where that is absent, of version 2.
 /// `buf` has room for the longest text.
-pub fn find_layout<D: Depot>(
+pub fn find_layout<D: PutStore>(
     alloc: Global,
     depot: &mut D,
     name: &Key,

@@ -9,10 +9,10 @@ ghost use Rattle.cu_load.specs.Keys.{IsAskedFor, AreFree, IsAskFault};
 use cu_codec::{metadata_key, zarray_key};
 use cu_command::{Status, ask_key};
 use cu_name::record_key;
-use cu_store::{Depot, Key};
+use cu_store::{Key, PutStore};
 
 /// Refuses a key that is held.
-fn refuse_held<D: Depot>(depot: &mut D, key: &Key, retries: u32) -> Result<(), Status>
+fn refuse_held<D: PutStore>(depot: &mut D, key: &Key, retries: u32) -> Result<(), Status>
     ensures gone { OnOk result (IsGone (D.shown depot.new).held key.now) }
     ensures refused { IfErr result (IsAskFault (retries + 1) (λ asked. asked ≡ key.now) (D.shown depot.old).faults (D.shown depot.new).faults (D.shown depot.new).held) }
     ensures step { Steps NoChange 1 (retries + 1) (D.shown depot.old) (D.shown depot.new) }
@@ -31,7 +31,7 @@ fn refuse_held<D: Depot>(depot: &mut D, key: &Key, retries: u32) -> Result<(), S
 }
 
 /// Asks for the two keys of metadata of the array with this name, first that of version 3, and refuses the first that is held.
-fn ask_metadata<D: Depot>(depot: &mut D, name: &Key, retries: u32) -> Result<(), Status>
+fn ask_metadata<D: PutStore>(depot: &mut D, name: &Key, retries: u32) -> Result<(), Status>
     requires { IsArrayName name.now }
     ensures free { OnOk result (HasNoMetadata (D.shown depot.old).held name.now) }
     ensures refused { IfErr result (IsAskFault (retries + 1) (IsMetadataAsked (D.shown depot.old).held name.now) (D.shown depot.old).faults (D.shown depot.new).faults (D.shown depot.new).held) }
@@ -48,7 +48,7 @@ fn ask_metadata<D: Depot>(depot: &mut D, name: &Key, retries: u32) -> Result<(),
 
 /// Asks for the key of the record of the plan that stores the array with this name, and then for those of its metadata, and
 /// refuses the first that is held.
-pub fn ask_keys<D: Depot>(depot: &mut D, name: &Key, retries: u32) -> Result<(), Status>
+pub fn ask_keys<D: PutStore>(depot: &mut D, name: &Key, retries: u32) -> Result<(), Status>
     requires { IsArrayName name.now }
     ensures free { OnOk result (AreFree name.now (D.shown depot.old).held) }
     ensures refused { IfErr result (IsAskFault (retries + 1) (IsAskedFor name.now (D.shown depot.old).held) (D.shown depot.old).faults (D.shown depot.new).faults (D.shown depot.new).held) }

@@ -12,7 +12,7 @@ use crate::room::take_room;
 use crate::store::store_array;
 use cu_command::{Status, StreamRefused, read_all};
 use cu_name::key_of_name;
-use cu_store::{Depot, Sink, Source};
+use cu_store::{PutStore, Sink, Source};
 use std::alloc::Global;
 
 /// Stores the array that a text of the load form says, and writes a report.
@@ -22,7 +22,7 @@ use std::alloc::Global;
 /// the source failed; `BadLoad` where the text says no array, with the code of the reason; `Exists` where the record of a plan
 /// that stores the array, or metadata of its name, of either version, is held already; `DepotFailed` where all calls for a key failed; `WriteFault` where
 /// the sink failed, with the array stored; and `NoMemory`. On `ReadFault`, `BadLoad` and `Exists` nothing is stored.
-pub fn load<R: Source, W: Sink, D: Depot>(
+pub fn load<R: Source, W: Sink, D: PutStore>(
     alloc: Global,
     retries: u32,
     src: &mut R,
@@ -48,7 +48,7 @@ pub fn load<R: Source, W: Sink, D: Depot>(
 }
 
 /// Stores the array that was read.
-fn store_form<W: Sink, D: Depot>(
+fn store_form<W: Sink, D: PutStore>(
     alloc: Global,
     retries: u32,
     form: &LoadForm,

@@ -16,11 +16,11 @@ use cu_codec::{chunk_key, metadata_key};
 use cu_command::{Status, put_value};
 use cu_name::key_of_name;
 use cu_shape::index_of;
-use cu_store::Depot;
+use cu_store::PutStore;
 
 /// Stores chunk `number` of the array, chunks counted row-major. `input` has the bytes of the array's elements, and
 /// `chunk` is a buffer of the length of a chunk.
-fn store_chunk<D: Depot>(
+fn store_chunk<D: PutStore>(
     depot: &mut D,
     form: &LoadForm,
     number: u64,
@@ -47,7 +47,7 @@ fn store_chunk<D: Depot>(
 }
 
 /// Stores the chunks of the array, in order.
-fn store_chunks<D: Depot>(
+fn store_chunks<D: PutStore>(
     depot: &mut D,
     form: &LoadForm,
     input: &[u8],
@@ -73,7 +73,7 @@ fn store_chunks<D: Depot>(
 
 /// Stores the array: its chunks in order, and then its metadata, which is given as its text. A call of the depot that fails is tried
 /// again, up to `retries` times. Where all calls for a key failed, the answer names it, and only the chunks up to that one were stored.
-pub fn store_array<D: Depot>(
+pub fn store_array<D: PutStore>(
     depot: &mut D,
     form: &LoadForm,
     input: &[u8],

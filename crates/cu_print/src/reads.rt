@@ -21,7 +21,7 @@ use cu_grid::{Grid, Region};
 use cu_num::{Endian, size};
 use cu_op::ArrayInfo;
 use cu_shape::{Dims, difference, place};
-use cu_store::Depot;
+use cu_store::PutStore;
 
 /// Why a band wasn't read whole.
 #[derive(Clone, Copy)]
@@ -34,7 +34,7 @@ pub(crate) struct Unread {
 
 /// Reads a chunk, again where the store failed, and copies what of it lies in the region into the region's buffer. Else it says
 /// why reading it ended.
-fn read_part<D: Depot>(
+fn read_part<D: PutStore>(
     depot: &mut D,
     info: &ArrayInfo,
     coord: &Dims,
@@ -105,7 +105,7 @@ fn ready_before(grid: &Grid, coord: &Dims, region: &Region) -> u64
 
 /// Reads a region into its buffer, row-major and little-endian: each chunk that shares an element with it once, in row-major
 /// order, and again where the store failed.
-pub(crate) fn read_band<D: Depot>(
+pub(crate) fn read_band<D: PutStore>(
     depot: &mut D,
     info: &ArrayInfo,
     region: &Region,

@@ -1,5 +1,5 @@
 -- Keys that are called for once, and again only where a call failed.
-use Rattle.std.proofs.Common.{ℕ, ◌+◌, ◌-◌, ◌≤◌, arith}
+use Rattle.std.proofs.Common.{ℕ, ◌+◌, ◌≤◌, arith}
 use Rattle.cu_store.specs.Steps.{Shown, Changes, Steps, OnceEach}
 
 -- some keys, and then others

@@ -5,7 +5,7 @@ ghost use Rattle.cu_store.specs.Steps.{Shown, NoChange, PutOf, Steps, Caused};
 ghost use Rattle.cu_store.specs.Yard.{shown_by, MayGet, MayPut};
 ghost use Rattle.cu_store.specs.Chunks.{Adds, StaysOpen};
 
-use crate::{Depot, DepotFault, Got, Key, Yard};
+use crate::{DepotFault, Got, Key, PutStore, Yard};
 use std::marker::PhantomData;
 
 /// Chunks under keys that are read and written. `Store` is what is shared, and `Access` what the caller has for itself.
@@ -67,12 +67,12 @@ pub trait Chunks {
         ensures open { StaysOpen (belongs store.now access.new) (may_get store.now access.old) (may_get store.now access.new) };
 }
 
-/// Chunks that lie straight in a depot. Any key may be asked for and put. Their calls have no weight.
-pub struct InDepot<D: Depot> {
+/// Chunks that lie straight in a depot, or in another store of puts. Any key may be asked for and put. Their calls have no weight.
+pub struct InDepot<D: PutStore> {
     of: PhantomData<D>,
 }
 
-impl<D: Depot> Chunks for InDepot<D> {
+impl<D: PutStore> Chunks for InDepot<D> {
     type Store = ();
 
     type Access = D;

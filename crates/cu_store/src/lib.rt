@@ -15,12 +15,12 @@ mod tries;
 mod yard;
 
 pub use chunks::{Chunks, InDepot, InYard};
-pub use depot::{Depot, Got};
+pub use depot::{Depot, Got, PutStore};
 pub use faults::{DepotFault, Failed, NoMemory, TaskFault};
 pub use key::Key;
 pub use laws::{Changing, steps_compose};
 pub use promise::{Promise, Promised};
-pub use share::{Gate, NoGate, Share, share_tries};
+pub use share::{Gate, NoGate, Share, SharedStore, share_tries};
 pub use streams::{Sink, Source};
 pub use tries::{get_tries, has_tries, put_tries, remove_tries};
 pub use yard::{Spec, Yard};

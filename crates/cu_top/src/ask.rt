@@ -15,7 +15,7 @@ use cu_command::{Job, Status};
 use cu_form::{Expr, Form};
 use cu_name::{IdText, key_of_name, record_key};
 use cu_op::Plan;
-use cu_store::{Depot, DepotFault, Key, has_tries};
+use cu_store::{DepotFault, Key, PutStore, has_tries};
 use cu_work::{WayFault, ask_keys};
 
 /// The keys of the two texts that a run stores.
@@ -63,7 +63,7 @@ pub fn is_own_input(expr: &Expr) -> bool
 }
 
 /// Asks for one key.
-fn ask_text<D: Depot>(depot: &mut D, key: &Key, retries: u32) -> Result<(), WayFault>
+fn ask_text<D: PutStore>(depot: &mut D, key: &Key, retries: u32) -> Result<(), WayFault>
     ensures { IsAsked (retries + 1) (D.shown depot.old) (D.shown depot.new) (key.now ∷ []) result }
 {
     match has_tries(depot, key, retries) {
@@ -75,7 +75,7 @@ fn ask_text<D: Depot>(depot: &mut D, key: &Key, retries: u32) -> Result<(), WayF
 }
 
 /// Asks for the keys of the texts, the record's first.
-fn ask_texts<D: Depot>(depot: &mut D, keys: &TextKeys, retries: u32) -> Result<(), WayFault>
+fn ask_texts<D: PutStore>(depot: &mut D, keys: &TextKeys, retries: u32) -> Result<(), WayFault>
     ensures { IsAsked (retries + 1) (D.shown depot.old) (D.shown depot.new) (keys.now.«record» ∷ keys.now.metadata ∷ []) result }
 {
     if let Err(fault) = ask_text(depot, &keys.record, retries) {
@@ -93,7 +93,7 @@ fn zarray_of(expr: &Expr) -> Key
 
 /// Asks for the keys of a plan whose output is one of its inputs. The input's metadata was read, and counts as held: so this ends
 /// at the output's metadata of version 2, where it didn't end at the record or at the metadata of version 3.
-fn ask_own<D: Depot>(depot: &mut D, job: &Job, retries: u32) -> WayFault
+fn ask_own<D: PutStore>(depot: &mut D, job: &Job, retries: u32) -> WayFault
     requires own { is_own_input job.now.expr ≡ true }
     ensures step { Steps NoChange 0 ((retries + 1) * 2) (D.shown depot.old) (D.shown depot.new) }
     ensures once { OnceEach 2 (D.shown depot.old) (D.shown depot.new) }
@@ -107,7 +107,7 @@ fn ask_own<D: Depot>(depot: &mut D, job: &Job, retries: u32) -> WayFault
 
 /// Asks for the keys of the plan, the record's first, then the output's metadata's, of version 3 and of version 2, and then those of
 /// its chunks, and refuses the first that is held.
-pub fn ask_plan<D: Depot>(
+pub fn ask_plan<D: PutStore>(
     depot: &mut D,
     job: &Job,
     plan: &Plan,

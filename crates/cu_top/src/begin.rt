@@ -15,7 +15,7 @@ use cu_command::{Status, write_all};
 use cu_lower::Options;
 use cu_plan::{begun_text, merged_plan_law};
 use cu_run_law::{complete_law, left_law};
-use cu_store::{Depot, Sink};
+use cu_store::{PutStore, Sink};
 use cu_work::{RunFault, Texts, store_texts};
 use std::alloc::Global;
 
@@ -30,7 +30,7 @@ fn text_answer(fault: RunFault) -> Status
 }
 
 /// Stores the record of an accepted plan and the metadata of its output.
-fn store_ready<D: Depot>(options: &Options, ready: &Ready, depot: &mut D) -> Result<(), Status>
+fn store_ready<D: PutStore>(options: &Options, ready: &Ready, depot: &mut D) -> Result<(), Status>
     requires options { IsInRange options.now }
     requires planned { HasPlan options.now ready.now.job }
     requires ready { HasPlanAndTexts options.now ready.now }
@@ -59,7 +59,7 @@ fn store_ready<D: Depot>(options: &Options, ready: &Ready, depot: &mut D) -> Res
 
 /// Begins a run of the expression of a text: refuses what a run refuses, stores the record and the
 /// output's metadata, and writes what the plan does. No task is started.
-pub fn begin<W: Sink, D: Depot>(
+pub fn begin<W: Sink, D: PutStore>(
     alloc: Global,
     options: &Options,
     text: &[u8],

@@ -28,7 +28,7 @@ use cu_load::load;
 use cu_lower::Options;
 use cu_name::key_of_name;
 use cu_print::print;
-use cu_store::{Depot, Gate, Share, Sink, Source};
+use cu_store::{Depot, Gate, PutStore, Share, SharedStore, Sink, Source};
 use std::alloc::Global;
 use std::sync::Wait;
 use std::thread::Threads;
@@ -202,7 +202,7 @@ fn carry<H: Threads + Wait + Sync, R: Source, W: Sink, D: Share, G: Gate>(
 }
 
 /// Computes the expression that the source has.
-fn run_command<H: Threads + Wait + Sync, R: Source, W: Sink, D: Share, G: Gate>(
+fn run_command<H: Threads + Wait + Sync, R: Source, W: Sink, D: SharedStore, G: Gate>(
     rt: &H,
     alloc: Global,
     options: &Options,
@@ -229,7 +229,7 @@ fn run_command<H: Threads + Wait + Sync, R: Source, W: Sink, D: Share, G: Gate>(
 }
 
 /// Goes on with a run of the expression that the source has.
-fn resume_command<H: Threads + Wait + Sync, R: Source, W: Sink, D: Share, G: Gate>(
+fn resume_command<H: Threads + Wait + Sync, R: Source, W: Sink, D: SharedStore, G: Gate>(
     rt: &H,
     alloc: Global,
     options: &Options,
@@ -279,7 +279,7 @@ fn drop_command<R: Source, W: Sink, D: Depot>(
 }
 
 /// Prints the plan of the expression that the source has.
-fn plan_command<R: Source, W: Sink, D: Depot>(
+fn plan_command<R: Source, W: Sink, D: PutStore>(
     alloc: Global,
     options: &Options,
     src: &mut R,
@@ -302,7 +302,7 @@ fn plan_command<R: Source, W: Sink, D: Depot>(
 }
 
 /// Begins a run of the expression that the source has.
-fn begin_command<R: Source, W: Sink, D: Depot>(
+fn begin_command<R: Source, W: Sink, D: PutStore>(
     alloc: Global,
     options: &Options,
     src: &mut R,
@@ -325,7 +325,7 @@ fn begin_command<R: Source, W: Sink, D: Depot>(
 }
 
 /// Runs some tasks of the plan of the expression that the source has.
-fn part_command<R: Source, W: Sink, D: Depot>(
+fn part_command<R: Source, W: Sink, D: PutStore>(
     alloc: Global,
     options: &Options,
     numbers: &PartNumbers,

@@ -38,7 +38,7 @@ use cu_op::Plan;
 use cu_plan::{merged_plan_law, plan};
 use cu_run_law::complete_law;
 use cu_shape::Dims;
-use cu_store::{Depot, DepotFault, Failed, Gate, Got, Key, Share, Sink, get_tries};
+use cu_store::{DepotFault, Failed, Gate, Got, Key, PutStore, SharedStore, Sink, get_tries};
 use std::alloc::Global;
 use std::sync::Wait;
 use std::thread::Threads;
@@ -66,7 +66,7 @@ fn plan_demo(alloc: Global, options: &Options, size: u64) -> Result<Prepared, St
 }
 
 /// Asks for the keys of the inputs and then for those of the plan, and refuses the first that is held.
-fn ask_demo<D: Depot>(depot: &mut D, prepared: &Prepared, retries: u32) -> Result<(), Status>
+fn ask_demo<D: PutStore>(depot: &mut D, prepared: &Prepared, retries: u32) -> Result<(), Status>
     requires { prepared.now.job.expr ≡ demo_expression }
     ensures inputs { OnOk result (AreInputsFree (D.shown depot.old).held) }
     ensures keys { (options : Options) (entry : Contents) → prepared.now.plan ≡ job_plan options prepared.now.job → (D.shown depot.old).held ≡ Some entry
@@ -95,7 +95,7 @@ fn ask_demo<D: Depot>(depot: &mut D, prepared: &Prepared, retries: u32) -> Resul
 }
 
 /// Makes an input and stores it.
-fn store_input<D: Depot>(
+fn store_input<D: PutStore>(
     alloc: Global,
     depot: &mut D,
     input: DemoInput,
@@ -132,7 +132,7 @@ fn store_input<D: Depot>(
 }
 
 /// Makes both inputs, one after the other, and stores them.
-fn store_inputs<D: Depot>(
+fn store_inputs<D: PutStore>(
     alloc: Global,
     depot: &mut D,
     size: u64,
@@ -165,7 +165,7 @@ fn result_key() -> Key
 }
 
 /// Reads the one element of the output. A chunk that is absent has the fill value, which is 0.
-fn read_result<D: Depot>(depot: &mut D, retries: u32) -> Result<i128, Status>
+fn read_result<D: PutStore>(depot: &mut D, retries: u32) -> Result<i128, Status>
     ensures element { IfOk result (IsResult (D.shown depot.new).held) }
     ensures step { Stepped NoChange (D.shown depot.old) (D.shown depot.new) }
     ensures refused { IfErr result (IsResultUnread (retries + 1) (D.shown depot.old) (D.shown depot.new)) }
@@ -216,7 +216,7 @@ fn write_result<W: Sink>(out: &mut W, size: u64, element: i128) -> Result<(), Fa
 }
 
 /// Reads the one element of the output, and writes its line and that of the report.
-fn tell_result<W: Sink, D: Depot>(
+fn tell_result<W: Sink, D: PutStore>(
     out: &mut W,
     depot: &mut D,
     size: u64,
@@ -247,7 +247,7 @@ fn tell_result<W: Sink, D: Depot>(
 /// and writes its one element and the report.
 ///
 /// All keys are asked for before anything is stored: those of the inputs, and then those of the plan.
-pub fn demo<H: Threads + Wait + Sync, W: Sink, D: Share, G: Gate>(
+pub fn demo<H: Threads + Wait + Sync, W: Sink, D: SharedStore, G: Gate>(
     rt: &H,
     alloc: Global,
     options: &Options,

@@ -22,7 +22,7 @@ use cu_lower::Options;
 use cu_meta::write_meta;
 use cu_op::{Plan, listed_number};
 use cu_plan::merged_plan_law;
-use cu_store::{Gate, Key, NoMemory, Share};
+use cu_store::{Gate, Key, NoMemory, SharedStore};
 use cu_table::broken_law;
 use cu_work::{HeldTexts, Outcome, RunEnd, RunFault, RunMemory, RunOptions, Texts, run_plan};
 use std::alloc::Global;
@@ -126,7 +126,7 @@ fn drive_answer(
 
 /// Stores the texts that aren't held, runs the tasks that aren't done, and says how often tasks were
 /// started and failed.
-pub fn drive_plan<H: Threads + Wait + Sync, D: Share, G: Gate>(
+pub fn drive_plan<H: Threads + Wait + Sync, D: SharedStore, G: Gate>(
     rt: &H,
     alloc: Global,
     options: &Options,

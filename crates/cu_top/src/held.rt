@@ -16,7 +16,7 @@ use crate::drive::{Ready, make_ready};
 use crate::prepare::plan_job;
 use cu_command::{Status, zeros};
 use cu_lower::Options;
-use cu_store::{Depot, DepotFault, Got, Key, get_tries};
+use cu_store::{DepotFault, Got, Key, PutStore, get_tries};
 use std::alloc::Global;
 
 /// Why a key doesn't hold the record of a plan.
@@ -64,7 +64,7 @@ fn compare_record(found: &[u8], text: &[u8]) -> Result<(), RecordFault>
 
 /// Asks whether a key holds the record of a plan, by a buffer that has room for one byte more than the
 /// record: so a longer one is told.
-fn ask_front<D: Depot>(
+fn ask_front<D: PutStore>(
     depot: &mut D,
     key: &Key,
     text: &[u8],
@@ -90,7 +90,7 @@ fn ask_front<D: Depot>(
 }
 
 /// Asks whether a key holds the record of a plan.
-fn ask_record<D: Depot>(
+fn ask_record<D: PutStore>(
     alloc: Global,
     depot: &mut D,
     key: &Key,
@@ -125,7 +125,7 @@ fn record_answer(key: &Key, fault: RecordFault) -> Status
 /// this order, as for a run, and then the record where it isn't held or another is. Nothing is changed.
 ///
 /// Where the output is one of the inputs there is no such plan.
-pub fn reopen<D: Depot>(
+pub fn reopen<D: PutStore>(
     alloc: Global,
     options: &Options,
     text: &[u8],

@@ -17,7 +17,7 @@ use cu_lower::Options;
 use cu_op::{Plan, is_listed, listed_number, tasks};
 use cu_plan::merged_plan_law;
 use cu_run_law::{complete_law, left_law};
-use cu_store::{Depot, Failed, Sink};
+use cu_store::{Failed, PutStore, Sink};
 use cu_work::{Part, PartCounts, PartFault, run_part};
 use std::alloc::Global;
 
@@ -127,7 +127,7 @@ fn part_fault_answer(op: u32, fault: PartFault) -> Status
 /// Runs those tasks of an operation whose numbers are given and whose chunks aren't all held, and writes
 /// the report. The operation is called by its number among those whose results are stored. The text is
 /// refused as that of a run that goes on, up to the record.
-pub fn store_part<W: Sink, D: Depot>(
+pub fn store_part<W: Sink, D: PutStore>(
     alloc: Global,
     options: &Options,
     numbers: &PartNumbers,

@@ -10,11 +10,11 @@ use crate::prepare::plan_job;
 use cu_command::{Status, write_all};
 use cu_lower::Options;
 use cu_plan::plan_text;
-use cu_store::{Depot, Sink};
+use cu_store::{PutStore, Sink};
 use std::alloc::Global;
 
 /// Makes the plan of a text's expression, and writes what it does: a line for each operation, and one for the whole plan. Nothing is stored.
-pub fn print_plan<W: Sink, D: Depot>(
+pub fn print_plan<W: Sink, D: PutStore>(
     alloc: Global,
     options: &Options,
     text: &[u8],

@@ -16,7 +16,7 @@ use cu_command::{Job, Status, read_job};
 use cu_lower::Options;
 use cu_op::Plan;
 use cu_plan::{PlanFault, plan};
-use cu_store::Depot;
+use cu_store::PutStore;
 use std::alloc::Global;
 
 /// A job that has a plan, and its plan.
@@ -62,7 +62,7 @@ pub fn unplanned_status(fault: PlanFault) -> Status
 }
 
 /// Makes the plan of a text's expression: the text, the inputs' metadata, the types and the plan are refused in this order.
-pub fn plan_job<D: Depot>(
+pub fn plan_job<D: PutStore>(
     alloc: Global,
     options: &Options,
     text: &[u8],
@@ -91,7 +91,7 @@ pub fn plan_job<D: Depot>(
 
 /// Checks what can be refused before anything is stored: the text, the inputs' metadata and the types, then the plan, and then the keys
 /// in the way, in this order.
-pub fn prepare<D: Depot>(
+pub fn prepare<D: PutStore>(
     alloc: Global,
     options: &Options,
     text: &[u8],

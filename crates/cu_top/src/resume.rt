@@ -27,7 +27,7 @@ use cu_command::{Status, ask_key};
 use cu_lower::Options;
 use cu_plan::merged_plan_law;
 use cu_run_law::{complete_law, left_law};
-use cu_store::{Depot, Gate, Share, Sink};
+use cu_store::{Gate, PutStore, SharedStore, Sink};
 use cu_table::{broken_law, done_law};
 use cu_work::{FindFault, HeldTexts, RunMemory, find_done, resume_law};
 use std::alloc::Global;
@@ -55,7 +55,7 @@ fn find_answer(fault: FindFault) -> Status
 
 /// Which of the texts of a plan are held whose record is, and which tasks are done; and all memory of
 /// the tasks. Nothing is changed.
-fn find_rest<D: Depot>(
+fn find_rest<D: PutStore>(
     alloc: Global,
     options: &Options,
     ready: &Ready,
@@ -99,7 +99,7 @@ fn find_rest<D: Depot>(
 
 /// Runs the tasks of a plan that was found again and whose chunks aren't all held. Says how often tasks
 /// were started and failed.
-fn go_on<H: Threads + Wait + Sync, D: Share, G: Gate>(
+fn go_on<H: Threads + Wait + Sync, D: SharedStore, G: Gate>(
     rt: &H,
     alloc: Global,
     options: &Options,
@@ -140,7 +140,7 @@ fn go_on<H: Threads + Wait + Sync, D: Share, G: Gate>(
 
 /// Goes on with a run of the expression of a text: finds its plan again and the tasks whose chunks are
 /// all held, runs the others, and writes the report.
-pub fn resume<H: Threads + Wait + Sync, W: Sink, D: Share, G: Gate>(
+pub fn resume<H: Threads + Wait + Sync, W: Sink, D: SharedStore, G: Gate>(
     rt: &H,
     alloc: Global,
     options: &Options,

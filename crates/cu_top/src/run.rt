@@ -19,7 +19,7 @@ use cu_command::Status;
 use cu_lower::Options;
 use cu_plan::merged_plan_law;
 use cu_run_law::{complete_law, left_law};
-use cu_store::{Gate, Share, Sink};
+use cu_store::{Gate, SharedStore, Sink};
 use cu_table::{broken_law, count_law};
 use cu_work::{HeldTexts, RunMemory, none_done};
 use std::alloc::Global;
@@ -28,7 +28,7 @@ use std::thread::Threads;
 
 /// Takes the memory of the tasks, and stores what the plan makes. Says how often tasks were started and
 /// failed.
-pub fn store_plan<H: Threads + Wait + Sync, D: Share, G: Gate>(
+pub fn store_plan<H: Threads + Wait + Sync, D: SharedStore, G: Gate>(
     rt: &H,
     alloc: Global,
     options: &Options,
@@ -78,7 +78,7 @@ pub fn store_plan<H: Threads + Wait + Sync, D: Share, G: Gate>(
 }
 
 /// Computes the expression of a text over the stored arrays, stores the array that it makes, and writes the report.
-pub fn run<H: Threads + Wait + Sync, W: Sink, D: Share, G: Gate>(
+pub fn run<H: Threads + Wait + Sync, W: Sink, D: SharedStore, G: Gate>(
     rt: &H,
     alloc: Global,
     options: &Options,

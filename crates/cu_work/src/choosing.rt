@@ -18,7 +18,7 @@ use crate::find::{FindFault, find_task};
 use crate::part::{Part, PartFault};
 use crate::way::key_of;
 use cu_op::{Cell, Plan, inputs};
-use cu_store::{Depot, DepotFault, Key, has_tries};
+use cu_store::{DepotFault, Key, PutStore, has_tries};
 use std::alloc::{AllocError, Global};
 use std::collections::HashSet;
 
@@ -36,7 +36,7 @@ fn add_key(alloc: Global, known: &mut HashSet<String>, key: &Key) -> Result<(), 
 
 /// Whether the chunk with this key, which the task reads and an operation makes, is held. It is asked
 /// for unless it is known to be held.
-fn ask_input<D: Depot>(
+fn ask_input<D: PutStore>(
     alloc: Global,
     plan: &Plan,
     depot: &mut D,
@@ -71,7 +71,7 @@ fn ask_input<D: Depot>(
 }
 
 /// Whether a chunk that the task reads is held, or is one of an input of the plan.
-fn ask_cell<D: Depot>(
+fn ask_cell<D: PutStore>(
     alloc: Global,
     plan: &Plan,
     depot: &mut D,
@@ -110,7 +110,7 @@ fn ask_cell<D: Depot>(
 
 /// Whether each chunk that the task reads and an operation makes is held. Those that aren't known to be
 /// are asked for, up to the first that is absent.
-fn ask_inputs<D: Depot>(
+fn ask_inputs<D: PutStore>(
     alloc: Global,
     plan: &Plan,
     depot: &mut D,
@@ -141,7 +141,7 @@ fn ask_inputs<D: Depot>(
 
 /// Whether the task is to be started: not all chunks that it writes are held, and all that it reads and
 /// an operation makes are.
-fn choose_task<D: Depot>(
+fn choose_task<D: PutStore>(
     alloc: Global,
     plan: &Plan,
     depot: &mut D,
@@ -184,7 +184,7 @@ fn fault_of(fault: FindFault) -> PartFault
 }
 
 /// For each task of the part whether it is to be started: it lacks a chunk, and what it reads is there.
-pub(crate) fn choose_tasks<D: Depot>(
+pub(crate) fn choose_tasks<D: PutStore>(
     alloc: Global,
     plan: &Plan,
     depot: &mut D,

@@ -12,7 +12,7 @@ ghost use Rattle.cu_work.specs.World.{IsFound};
 
 use crate::way::key_of;
 use cu_op::{Plan, outputs, tasks};
-use cu_store::{Depot, DepotFault, Key, has_tries};
+use cu_store::{DepotFault, Key, PutStore, has_tries};
 use std::alloc::Global;
 
 /// Why finding the tasks that are done ended.
@@ -25,7 +25,7 @@ pub enum FindFault {
 }
 
 /// Whether a key is held.
-fn find_key<D: Depot>(depot: &mut D, key: &Key, retries: u32) -> Result<bool, FindFault>
+fn find_key<D: PutStore>(depot: &mut D, key: &Key, retries: u32) -> Result<bool, FindFault>
     ensures asked { IfOk result (AreAsked (retries + 1) (key.now ∷ []) (D.shown depot.old) (D.shown depot.new)) }
     ensures cause { IfErr result (IsSearchFault (retries + 1) (key.now ∷ []) (D.shown depot.old, D.shown depot.new)) }
 {
@@ -40,7 +40,7 @@ fn find_key<D: Depot>(depot: &mut D, key: &Key, retries: u32) -> Result<bool, Fi
 /// at most `retries` times.
 ///
 /// `Failed`: all calls for this key failed. `NoMemory`: the depot lacked memory.
-pub fn find_task<D: Depot>(
+pub fn find_task<D: PutStore>(
     plan: &Plan,
     depot: &mut D,
     op: u32,
@@ -63,7 +63,7 @@ pub fn find_task<D: Depot>(
 }
 
 /// Writes to the list which tasks of an operation are done, where `first` is the number of its first task.
-fn find_operation<D: Depot>(
+fn find_operation<D: PutStore>(
     plan: &Plan,
     depot: &mut D,
     op: u32,
@@ -89,7 +89,7 @@ fn find_operation<D: Depot>(
 }
 
 /// Writes to the list which tasks of the plan are done.
-fn find_tasks<D: Depot>(
+fn find_tasks<D: PutStore>(
     plan: &Plan,
     depot: &mut D,
     done: &mut [bool],
@@ -128,7 +128,7 @@ fn count_tasks(plan: &Plan) -> usize
 ///
 /// `Failed`: all calls for this key failed. `NoMemory`: there was no memory for the list, and nothing was called, or the depot
 /// lacked memory.
-pub fn find_done<D: Depot>(
+pub fn find_done<D: PutStore>(
     alloc: Global,
     depot: &mut D,
     plan: &Plan,

@@ -9,7 +9,7 @@ ghost use Rattle.cu_work.specs.Part.{IsPartOf, PartPut};
 use crate::choosing::choose_tasks;
 use crate::trying::{TaskMemory, run_chosen};
 use cu_op::{Plan, range_law};
-use cu_store::{Depot, Key};
+use cu_store::{Key, PutStore};
 use std::alloc::Global;
 
 /// Some tasks of one operation of a plan.
@@ -68,7 +68,7 @@ pub enum PartFault {
 /// Nothing is put but chunks of tasks that lacked one. Where the contents are told and were left so by
 /// the plan at first, each of these is put with its value, and after `Ok` all chunks of the part's
 /// tasks hold theirs.
-pub fn run_part<D: Depot>(
+pub fn run_part<D: PutStore>(
     alloc: Global,
     plan: &Plan,
     depot: &mut D,

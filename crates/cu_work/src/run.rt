@@ -20,7 +20,7 @@ use crate::options::RunOptions;
 use crate::outcome::RunEnd;
 use crate::shared::run_tasks;
 use cu_op::Plan;
-use cu_store::{Depot, DepotFault, Gate, Key, Share, put_tries};
+use cu_store::{DepotFault, Gate, Key, PutStore, SharedStore, put_tries};
 use std::alloc::Global;
 use std::sync::Wait;
 use std::thread::Threads;
@@ -61,7 +61,7 @@ pub enum RunFault {
 }
 
 /// Stores one text.
-fn put_text<D: Depot>(depot: &mut D, key: &Key, text: &[u8], retries: u32) -> Result<(), RunFault>
+fn put_text<D: PutStore>(depot: &mut D, key: &Key, text: &[u8], retries: u32) -> Result<(), RunFault>
     ensures stored { OnOk result (Holds (D.shown depot.new).held key.now text.now) }
     ensures step { Steps (PutOf key.now text.now) 1 (retries + 1) (D.shown depot.old) (D.shown depot.new) }
     ensures once { OnceEach 1 (D.shown depot.old) (D.shown depot.new) }
@@ -78,7 +78,7 @@ fn put_text<D: Depot>(depot: &mut D, key: &Key, text: &[u8], retries: u32) -> Re
 /// most `retries` times.
 ///
 /// `TextFailed`: all calls for this text failed. `NoMemory`: the depot lacked memory.
-pub fn store_texts<D: Depot>(
+pub fn store_texts<D: PutStore>(
     plan: &Plan,
     depot: &mut D,
     texts: &Texts<'_>,
@@ -99,7 +99,7 @@ pub fn store_texts<D: Depot>(
 }
 
 /// Stores the texts of the plan that aren't held, the record first.
-fn put_texts<D: Depot>(
+fn put_texts<D: PutStore>(
     plan: &Plan,
     depot: &mut D,
     texts: &Texts<'_>,
@@ -145,7 +145,7 @@ fn fault_of(fault: DepotFault) -> RunFault
 ///
 /// `TextFailed`: all calls for this text failed. `ShareFailed`: all calls to share failed; the texts are held. The answers of `Ok` are
 /// those of `run_tasks`.
-pub fn run_plan<H: Threads + Wait + Sync, D: Share, G: Gate>(
+pub fn run_plan<H: Threads + Wait + Sync, D: SharedStore, G: Gate>(
     rt: &H,
     alloc: Global,
     plan: &Plan,

@@ -18,7 +18,7 @@ use crate::options::RunOptions;
 use crate::outcome::RunEnd;
 use crate::together::work;
 use cu_op::Plan;
-use cu_store::{DepotFault, Gate, Promise, Promised, Share, share_tries};
+use cu_store::{DepotFault, Gate, Promise, Promised, SharedStore, share_tries};
 use cu_table::count_law;
 use std::alloc::Global;
 use std::marker::Brand;
@@ -26,7 +26,7 @@ use std::sync::Wait;
 use std::thread::Threads;
 
 /// The same, where K's map is what is promised.
-fn run_promised<K: Promised, H: Threads + Wait + Sync, D: Share, G: Gate>(
+fn run_promised<K: Promised, H: Threads + Wait + Sync, D: SharedStore, G: Gate>(
     rt: &H,
     alloc: Global,
     plan: &Plan,
@@ -92,7 +92,7 @@ fn run_promised<K: Promised, H: Threads + Wait + Sync, D: Share, G: Gate>(
 ///
 /// `Failed`: all calls to share failed. `NoMemory`: the depot lacked memory. No task was run then. The `Lacked` of an outcome comes only
 /// where the depot's yards lack memory.
-pub fn run_tasks<H: Threads + Wait + Sync, D: Share, G: Gate>(
+pub fn run_tasks<H: Threads + Wait + Sync, D: SharedStore, G: Gate>(
     rt: &H,
     alloc: Global,
     plan: &Plan,

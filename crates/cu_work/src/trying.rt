@@ -16,7 +16,7 @@ ghost use Rattle.cu_work.specs.Tried.{AreTaskStarts, ChosenPut, HaveRun, IsMemor
 use crate::part::{Part, PartCounts, PartFault};
 use crate::rooms::{task_bytes, task_words};
 use cu_op::{Plan, range_law};
-use cu_store::{Depot, InDepot, NoMemory, TaskFault};
+use cu_store::{InDepot, NoMemory, PutStore, TaskFault};
 use cu_task::run_task_of;
 use std::alloc::Global;
 
@@ -44,7 +44,7 @@ impl TaskMemory {
 }
 
 /// One try of a task, straight in the depot.
-fn try_task<D: Depot>(
+fn try_task<D: PutStore>(
     plan: &Plan,
     depot: &mut D,
     op: u32,
@@ -84,7 +84,7 @@ fn ends_tries(fault: &TaskFault) -> bool
 
 /// Runs a task, and again where the store failed, at most `retries` times. Says how often it failed
 /// before it was done.
-fn run_tries<D: Depot>(
+fn run_tries<D: PutStore>(
     plan: &Plan,
     depot: &mut D,
     op: u32,
@@ -134,7 +134,7 @@ fn task_fault(task: u32, fault: TaskFault) -> PartFault
 }
 
 /// Runs the tasks of a part that are chosen, in their order.
-pub(crate) fn run_chosen<D: Depot>(
+pub(crate) fn run_chosen<D: PutStore>(
     plan: &Plan,
     depot: &mut D,
     part: &Part,

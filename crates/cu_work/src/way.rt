@@ -6,7 +6,7 @@ ghost use Rattle.cu_work.specs.Order.{task_keys, operation_keys, plan_keys, IsAs
 
 use cu_codec::chunk_key;
 use cu_op::{Cell, Plan, outputs, tasks};
-use cu_store::{Depot, DepotFault, Key, has_tries};
+use cu_store::{DepotFault, Key, PutStore, has_tries};
 
 /// Why asking for the keys of a plan ended.
 #[derive(Clone, Copy, Debug, PartialEq, Eq)]
@@ -20,7 +20,7 @@ pub enum WayFault {
 }
 
 /// Asks for one key.
-fn ask_key<D: Depot>(depot: &mut D, key: &Key, retries: u32) -> Result<(), WayFault>
+fn ask_key<D: PutStore>(depot: &mut D, key: &Key, retries: u32) -> Result<(), WayFault>
     ensures { IsAsked (retries + 1) (D.shown depot.old) (D.shown depot.new) (key.now ∷ []) result }
 {
     match has_tries(depot, key, retries) {
@@ -41,7 +41,7 @@ pub fn key_of(plan: &Plan, cell: &Cell) -> Key
 }
 
 /// Asks for the keys of the chunks that a task writes.
-fn ask_task<D: Depot>(
+fn ask_task<D: PutStore>(
     plan: &Plan,
     depot: &mut D,
     op: u32,
@@ -61,7 +61,7 @@ fn ask_task<D: Depot>(
 }
 
 /// Asks for the keys of the chunks that the tasks of an operation write, in the order of the tasks.
-fn ask_operation<D: Depot>(
+fn ask_operation<D: PutStore>(
     plan: &Plan,
     depot: &mut D,
     op: u32,
@@ -79,7 +79,7 @@ fn ask_operation<D: Depot>(
 }
 
 /// Asks for the keys of the chunks that the plan makes, in the order of its operations.
-fn ask_chunks<D: Depot>(plan: &Plan, depot: &mut D, retries: u32) -> Result<(), WayFault>
+fn ask_chunks<D: PutStore>(plan: &Plan, depot: &mut D, retries: u32) -> Result<(), WayFault>
     ensures { IsAsked (retries + 1) (D.shown depot.old) (D.shown depot.new) (plan_keys plan.now (length plan.now.ops)) result }
 {
     for op in 0..plan.ops().len() as u32 {
@@ -91,7 +91,7 @@ fn ask_chunks<D: Depot>(plan: &Plan, depot: &mut D, retries: u32) -> Result<(), 
 }
 
 /// Asks for these keys, in their order.
-fn ask_texts<D: Depot>(depot: &mut D, texts: &[Key], retries: u32) -> Result<(), WayFault>
+fn ask_texts<D: PutStore>(depot: &mut D, texts: &[Key], retries: u32) -> Result<(), WayFault>
     ensures { IsAsked (retries + 1) (D.shown depot.old) (D.shown depot.new) texts.now result }
 {
     for key in texts {
@@ -106,7 +106,7 @@ fn ask_texts<D: Depot>(depot: &mut D, texts: &[Key], retries: u32) -> Result<(),
 /// that is held. Each is asked for again where the store failed, at most `retries` times.
 ///
 /// `Held`: the key is held, and those before it were free. `Failed`: all calls for it failed. `NoMemory`: the depot lacked memory.
-pub fn ask_keys<D: Depot>(
+pub fn ask_keys<D: PutStore>(
     plan: &Plan,
     depot: &mut D,
     texts: &[Key],

@@ -11,7 +11,7 @@ make-requires g c =
 
 pub returns-in-Ok-numbers_of-clause-read : goal.returns-in-Ok-numbers_of-clause-read
 returns-in-Ok-numbers_of-clause-read g c entry step =
-    is_read c.args.array.now c.in-Ok.bytes.items c.in-Ok-numbers_of.numbers.items c.make.result (g.D.Depot.shown c.args.depot.now) entry c.requires.layout.grid (rw c.shape.ensures.value at c.make.ensures.array) c.make.ensures.plain
+    is_read c.args.array.now c.in-Ok.bytes.items c.in-Ok-numbers_of.numbers.items c.make.result (g.D.PutStore.shown c.args.depot.now) entry c.requires.layout.grid (rw c.shape.ensures.value at c.make.ensures.array) c.make.ensures.plain
     (are_counted c.args.array.now.layout.dtype c.in-Ok.bytes.items _ (product c.args.array.now.layout.grid.shape) c.in-Ok-numbers_of.numbers.items
     (rw c.deref.ensures.value at c.in-Ok-numbers_of.ensures) (omega arith))
     c.in-Ok.ensures.read step

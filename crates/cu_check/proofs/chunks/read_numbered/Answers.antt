@@ -10,8 +10,8 @@ read_stored_chunk-requires-clause-coordinate g c = small_coordinate c.args.info.
 
 pub returns-in-Ok-clause-read : goal.returns-in-Ok-clause-read
 returns-in-Ok-clause-read g c entry step before =
-    numbered c.args.info.now c.args.number c.read_stored_chunk.new.chunk c.args.all.now c.place_chunk.new.all (g.D.Depot.shown c.args.depot.now) entry c.coordinate-coord.ensures.kept
-    (subst (λ (coord : List ℕ). HasHeldChunk c.args.info.now coord (g.D.Depot.shown c.args.depot.now) c.read_stored_chunk.new.chunk) c.coordinate-coord.ensures.value c.in-Ok.ensures.read)
+    numbered c.args.info.now c.args.number c.read_stored_chunk.new.chunk c.args.all.now c.place_chunk.new.all (g.D.PutStore.shown c.args.depot.now) entry c.coordinate-coord.ensures.kept
+    (subst (λ (coord : List ℕ). HasHeldChunk c.args.info.now coord (g.D.PutStore.shown c.args.depot.now) c.read_stored_chunk.new.chunk) c.coordinate-coord.ensures.value c.in-Ok.ensures.read)
     (subst (λ (coord : List ℕ). IsPlaced c.args.info.now.layout coord c.read_stored_chunk.new.chunk c.args.all.now c.place_chunk.new.all) c.coordinate-coord.ensures.value c.place_chunk.ensures)
     step before
 

@@ -7,8 +7,8 @@ use Rattle.cu_check.proofs.command.check.Goals as goal
 
 pub returns-in-Ok : goal.returns-in-Ok
 returns-in-Ok g c =
-    let old = seen (stream (g.W.Sink.written c.args.out.now) (g.W.Sink.faults c.args.out.now)) (g.D.Depot.shown c.args.depot.now) in
-    let new = seen (stream (g.W.Sink.written c.check_text.new.out) (g.W.Sink.faults c.check_text.new.out)) (g.D.Depot.shown c.check_text.new.depot) in
+    let old = seen (stream (g.W.Sink.written c.args.out.now) (g.W.Sink.faults c.args.out.now)) (g.D.PutStore.shown c.args.depot.now) in
+    let new = seen (stream (g.W.Sink.written c.check_text.new.out) (g.W.Sink.faults c.check_text.new.out)) (g.D.PutStore.shown c.check_text.new.depot) in
     record {
       answer = record {
         spared = c.check_text.ensures.step;
@@ -17,7 +17,7 @@ returns-in-Ok g c =
             old new c.in-Ok.text.items c.check_text.result c.in-Ok.ensures.text (subst (λ (text : List ℕ). Compares (c.args.retries + 1) text old new c.check_text.result) c.deref.ensures.value c.check_text.ensures.answer);
       };
       calls = text_within (c.args.retries + 1) (stream (g.R.Source.left c.args.src.now) (g.R.Source.faults c.args.src.now)) (stream (g.R.Source.left c.read_all.new.src) (g.R.Source.faults c.read_all.new.src))
-          c.in-Ok.text.items (g.D.Depot.shown c.args.depot.now) (g.D.Depot.shown c.check_text.new.depot) c.in-Ok.ensures.text (rw c.deref.ensures.value at c.check_text.ensures.calls);
+          c.in-Ok.text.items (g.D.PutStore.shown c.args.depot.now) (g.D.PutStore.shown c.check_text.new.depot) c.in-Ok.ensures.text (rw c.deref.ensures.value at c.check_text.ensures.calls);
       once = text_once (stream (g.R.Source.left c.args.src.now) (g.R.Source.faults c.args.src.now)) (stream (g.R.Source.left c.read_all.new.src) (g.R.Source.faults c.read_all.new.src))
-          c.in-Ok.text.items (g.D.Depot.shown c.args.depot.now) (g.D.Depot.shown c.check_text.new.depot) c.in-Ok.ensures.text (rw c.deref.ensures.value at c.check_text.ensures.once);
+          c.in-Ok.text.items (g.D.PutStore.shown c.args.depot.now) (g.D.PutStore.shown c.check_text.new.depot) c.in-Ok.ensures.text (rw c.deref.ensures.value at c.check_text.ensures.once);
     }

@@ -21,7 +21,7 @@ pub returns-in-Err-clause-cause : goal.returns-in-Err-clause-cause
 returns-in-Err-clause-cause g c = (
   record { name = c.in-Input.name; layout = layout_named c.args.inputs.now c.in-Input.name },
   ap (form_arrays c.args.inputs.now) c.in-Input.is,
-  subst (λ (l : Layout). IsArrayFault (c.args.retries + 1) (g.D.Depot.shown c.args.depot.now) (g.D.Depot.shown c.read_plain.new.depot) (record { name = c.in-Input.name; layout = l }) c.in-Err.status) c.layout_named.ensures c.in-Err.ensures.cause,
+  subst (λ (l : Layout). IsArrayFault (c.args.retries + 1) (g.D.PutStore.shown c.args.depot.now) (g.D.PutStore.shown c.read_plain.new.depot) (record { name = c.in-Input.name; layout = l }) c.in-Err.status) c.layout_named.ensures c.in-Err.ensures.cause,
 )
 
 pub returns-in-Err-push-clause-cause : goal.returns-in-Err-push-clause-cause
@@ -33,30 +33,30 @@ returns-in-Err-push-clause-cause g c = (
 
 pub returns-clause-calls : goal.returns-clause-calls
 returns-clause-calls g c =
-    calls_of_one (c.args.retries + 1) c.args.inputs.now c.args.form.now (array_named c.args.inputs.now c.in-Input.name) (g.D.Depot.shown c.args.depot.now) (g.D.Depot.shown c.read_plain.new.depot)
+    calls_of_one (c.args.retries + 1) c.args.inputs.now c.args.form.now (array_named c.args.inputs.now c.in-Input.name) (g.D.PutStore.shown c.args.depot.now) (g.D.PutStore.shown c.read_plain.new.depot)
     (ap (form_arrays c.args.inputs.now) c.in-Input.is) (rw c.layout_named.ensures at c.read_plain.ensures.calls)
 
 pub returns-in-Err-clause-calls : goal.returns-in-Err-clause-calls
 returns-in-Err-clause-calls g c =
-    calls_of_one (c.args.retries + 1) c.args.inputs.now c.args.form.now (array_named c.args.inputs.now c.in-Input.name) (g.D.Depot.shown c.args.depot.now) (g.D.Depot.shown c.read_plain.new.depot)
+    calls_of_one (c.args.retries + 1) c.args.inputs.now c.args.form.now (array_named c.args.inputs.now c.in-Input.name) (g.D.PutStore.shown c.args.depot.now) (g.D.PutStore.shown c.read_plain.new.depot)
     (ap (form_arrays c.args.inputs.now) c.in-Input.is) (rw c.layout_named.ensures at c.read_plain.ensures.calls)
 
 pub returns-in-Err-push-clause-calls : goal.returns-in-Err-push-clause-calls
 returns-in-Err-push-clause-calls g c =
-    calls_of_one (c.args.retries + 1) c.args.inputs.now c.args.form.now (array_named c.args.inputs.now c.in-Input.name) (g.D.Depot.shown c.args.depot.now) (g.D.Depot.shown c.read_plain.new.depot)
+    calls_of_one (c.args.retries + 1) c.args.inputs.now c.args.form.now (array_named c.args.inputs.now c.in-Input.name) (g.D.PutStore.shown c.args.depot.now) (g.D.PutStore.shown c.read_plain.new.depot)
     (ap (form_arrays c.args.inputs.now) c.in-Input.is) (rw c.layout_named.ensures at c.read_plain.ensures.calls)
 
 pub returns-clause-once : goal.returns-clause-once
 returns-clause-once g c =
-    once_of_one c.args.inputs.now c.args.form.now (array_named c.args.inputs.now c.in-Input.name) (g.D.Depot.shown c.args.depot.now) (g.D.Depot.shown c.read_plain.new.depot)
+    once_of_one c.args.inputs.now c.args.form.now (array_named c.args.inputs.now c.in-Input.name) (g.D.PutStore.shown c.args.depot.now) (g.D.PutStore.shown c.read_plain.new.depot)
     (ap (form_arrays c.args.inputs.now) c.in-Input.is) (rw c.layout_named.ensures at c.read_plain.ensures.once)
 
 pub returns-in-Err-clause-once : goal.returns-in-Err-clause-once
 returns-in-Err-clause-once g c =
-    once_of_one c.args.inputs.now c.args.form.now (array_named c.args.inputs.now c.in-Input.name) (g.D.Depot.shown c.args.depot.now) (g.D.Depot.shown c.read_plain.new.depot)
+    once_of_one c.args.inputs.now c.args.form.now (array_named c.args.inputs.now c.in-Input.name) (g.D.PutStore.shown c.args.depot.now) (g.D.PutStore.shown c.read_plain.new.depot)
     (ap (form_arrays c.args.inputs.now) c.in-Input.is) (rw c.layout_named.ensures at c.read_plain.ensures.once)
 
 pub returns-in-Err-push-clause-once : goal.returns-in-Err-push-clause-once
 returns-in-Err-push-clause-once g c =
-    once_of_one c.args.inputs.now c.args.form.now (array_named c.args.inputs.now c.in-Input.name) (g.D.Depot.shown c.args.depot.now) (g.D.Depot.shown c.read_plain.new.depot)
+    once_of_one c.args.inputs.now c.args.form.now (array_named c.args.inputs.now c.in-Input.name) (g.D.PutStore.shown c.args.depot.now) (g.D.PutStore.shown c.read_plain.new.depot)
     (ap (form_arrays c.args.inputs.now) c.in-Input.is) (rw c.layout_named.ensures at c.read_plain.ensures.once)

@@ -29,12 +29,12 @@ loop-node-preserved g c =
       read = λ entry before.
           subst (λ (xs : List InputInfo). AreReadArrays entry xs c.read_node.new.arrays.items) (sym more)
           (c.in-Ok.ensures.read entry (arrays_of_nodes c.args.inputs.now (take c.loop-node.node-index c.args.expr.now.nodes)) (stepped_then before c.loop-node.invariant.step) (c.loop-node.invariant.read entry before));
-      calls = subst (λ (xs : List InputInfo). WithinCalls (chunks_of_all xs * (c.args.retries + 1)) (g.D.Depot.shown c.args.depot.now) (g.D.Depot.shown c.read_node.new.depot)) (sym more)
+      calls = subst (λ (xs : List InputInfo). WithinCalls (chunks_of_all xs * (c.args.retries + 1)) (g.D.PutStore.shown c.args.depot.now) (g.D.PutStore.shown c.read_node.new.depot)) (sym more)
           (calls_of_more (c.args.retries + 1) (arrays_of_nodes c.args.inputs.now (take c.loop-node.node-index c.args.expr.now.nodes)) (form_arrays c.args.inputs.now c.node-item.result.form)
-          (g.D.Depot.shown c.args.depot.now) (g.D.Depot.shown c.loop-node.depot) (g.D.Depot.shown c.read_node.new.depot) c.loop-node.invariant.calls c.read_node.ensures.calls);
-      once = subst (λ (xs : List InputInfo). OnceEach (chunks_of_all xs) (g.D.Depot.shown c.args.depot.now) (g.D.Depot.shown c.read_node.new.depot)) (sym more)
+          (g.D.PutStore.shown c.args.depot.now) (g.D.PutStore.shown c.loop-node.depot) (g.D.PutStore.shown c.read_node.new.depot) c.loop-node.invariant.calls c.read_node.ensures.calls);
+      once = subst (λ (xs : List InputInfo). OnceEach (chunks_of_all xs) (g.D.PutStore.shown c.args.depot.now) (g.D.PutStore.shown c.read_node.new.depot)) (sym more)
           (once_of_more (arrays_of_nodes c.args.inputs.now (take c.loop-node.node-index c.args.expr.now.nodes)) (form_arrays c.args.inputs.now c.node-item.result.form)
-          (g.D.Depot.shown c.args.depot.now) (g.D.Depot.shown c.loop-node.depot) (g.D.Depot.shown c.read_node.new.depot) c.loop-node.invariant.once c.read_node.ensures.once);
+          (g.D.PutStore.shown c.args.depot.now) (g.D.PutStore.shown c.loop-node.depot) (g.D.PutStore.shown c.read_node.new.depot) c.loop-node.invariant.once c.read_node.ensures.once);
     }
 
 pub returns-in-Err-clause-step : goal.returns-in-Err-clause-step
@@ -45,7 +45,7 @@ returns-in-Err-clause-cause g c entry before =
     let (a, own, fault) = c.in-Err.ensures.cause in
     let same = c.nodes-node-items.ensures.nodes in
     rw (← same) (node_fault (c.args.retries + 1) c.args.inputs.now c.nodes-node-items.result.now c.loop-node.node-index c.node-item.result a c.loop-node.arrays.items
-    (g.D.Depot.shown c.args.depot.now) (g.D.Depot.shown c.loop-node.depot) (g.D.Depot.shown c.read_node.new.depot) entry c.in-Err.status c.loop-node-test.true c.node-item.is own
+    (g.D.PutStore.shown c.args.depot.now) (g.D.PutStore.shown c.loop-node.depot) (g.D.PutStore.shown c.read_node.new.depot) entry c.in-Err.status c.loop-node-test.true c.node-item.is own
     c.loop-node.invariant.step.step.count (rw same (c.loop-node.invariant.read entry before)) (fault entry (stepped_then before c.loop-node.invariant.step)))
 
 pub returns-clause-read : goal.returns-clause-read
@@ -57,8 +57,8 @@ returns-clause-read g c entry before =
 pub returns-in-Err-clause-calls : goal.returns-in-Err-clause-calls
 returns-in-Err-clause-calls g c =
     let same = c.nodes-node-items.ensures.nodes in
-    rw (← same) (node_calls (c.args.retries + 1) c.args.inputs.now c.nodes-node-items.result.now c.loop-node.node-index c.node-item.result (g.D.Depot.shown c.args.depot.now) (g.D.Depot.shown c.loop-node.depot)
-    (g.D.Depot.shown c.read_node.new.depot) c.loop-node-test.true c.node-item.is (rw same c.loop-node.invariant.calls) c.read_node.ensures.calls)
+    rw (← same) (node_calls (c.args.retries + 1) c.args.inputs.now c.nodes-node-items.result.now c.loop-node.node-index c.node-item.result (g.D.PutStore.shown c.args.depot.now) (g.D.PutStore.shown c.loop-node.depot)
+    (g.D.PutStore.shown c.read_node.new.depot) c.loop-node-test.true c.node-item.is (rw same c.loop-node.invariant.calls) c.read_node.ensures.calls)
 
 pub returns-clause-calls : goal.returns-clause-calls
 returns-clause-calls g c =
@@ -69,8 +69,8 @@ returns-clause-calls g c =
 pub returns-in-Err-clause-once : goal.returns-in-Err-clause-once
 returns-in-Err-clause-once g c =
     let same = c.nodes-node-items.ensures.nodes in
-    rw (← same) (node_once c.args.inputs.now c.nodes-node-items.result.now c.loop-node.node-index c.node-item.result (g.D.Depot.shown c.args.depot.now) (g.D.Depot.shown c.loop-node.depot)
-    (g.D.Depot.shown c.read_node.new.depot) c.loop-node-test.true c.node-item.is (rw same c.loop-node.invariant.once) c.read_node.ensures.once)
+    rw (← same) (node_once c.args.inputs.now c.nodes-node-items.result.now c.loop-node.node-index c.node-item.result (g.D.PutStore.shown c.args.depot.now) (g.D.PutStore.shown c.loop-node.depot)
+    (g.D.PutStore.shown c.read_node.new.depot) c.loop-node-test.true c.node-item.is (rw same c.loop-node.invariant.once) c.read_node.ensures.once)
 
 pub returns-clause-once : goal.returns-clause-once
 returns-clause-once g c =

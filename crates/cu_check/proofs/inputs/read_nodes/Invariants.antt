@@ -8,8 +8,8 @@ use Rattle.cu_check.proofs.inputs.read_nodes.Given as goal
 
 abbrev pub invariant-loop-node : goal.invariant-loop-node
 invariant-loop-node g l = record {
-  step : Stepped NoChange (g.D.Depot.shown l.initial.depot) (g.D.Depot.shown l.depot);
-  read : (entry : Shown) → Stepped NoChange entry (g.D.Depot.shown l.initial.depot) → AreReadArrays entry (arrays_of_nodes l.inputs (take l.node-index l.expr.nodes)) l.arrays.items;
-  calls : WithinCalls (chunks_of_all (arrays_of_nodes l.inputs (take l.node-index l.expr.nodes)) * (l.retries + 1)) (g.D.Depot.shown l.initial.depot) (g.D.Depot.shown l.depot);
-  once : OnceEach (chunks_of_all (arrays_of_nodes l.inputs (take l.node-index l.expr.nodes))) (g.D.Depot.shown l.initial.depot) (g.D.Depot.shown l.depot);
+  step : Stepped NoChange (g.D.PutStore.shown l.initial.depot) (g.D.PutStore.shown l.depot);
+  read : (entry : Shown) → Stepped NoChange entry (g.D.PutStore.shown l.initial.depot) → AreReadArrays entry (arrays_of_nodes l.inputs (take l.node-index l.expr.nodes)) l.arrays.items;
+  calls : WithinCalls (chunks_of_all (arrays_of_nodes l.inputs (take l.node-index l.expr.nodes)) * (l.retries + 1)) (g.D.PutStore.shown l.initial.depot) (g.D.PutStore.shown l.depot);
+  once : OnceEach (chunks_of_all (arrays_of_nodes l.inputs (take l.node-index l.expr.nodes))) (g.D.PutStore.shown l.initial.depot) (g.D.PutStore.shown l.depot);
 }

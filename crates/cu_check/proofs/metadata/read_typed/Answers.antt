@@ -15,10 +15,10 @@ pub returns-in-Err : goal.returns-in-Err
 returns-in-Err g c = record {
   job = tt;
   output = tt;
-  step = stepped_same NoChange (g.D.Depot.shown c.args.depot.now);
+  step = stepped_same NoChange (g.D.PutStore.shown c.args.depot.now);
   cause = λ out next.
-      subst (λ (s : Status). Compares (c.args.retries + 1) c.args.text.now (seen out (g.D.Depot.shown c.args.depot.now)) (seen next (g.D.Depot.shown c.args.depot.now)) s) (sym c.from.ensures)
-      (unread_ends (c.args.retries + 1) c.args.text.now (seen out (g.D.Depot.shown c.args.depot.now)) (seen next (g.D.Depot.shown c.args.depot.now)) c.in-Err.fault c.in-Err.ensures.fault);
+      subst (λ (s : Status). Compares (c.args.retries + 1) c.args.text.now (seen out (g.D.PutStore.shown c.args.depot.now)) (seen next (g.D.PutStore.shown c.args.depot.now)) s) (sym c.from.ensures)
+      (unread_ends (c.args.retries + 1) c.args.text.now (seen out (g.D.PutStore.shown c.args.depot.now)) (seen next (g.D.PutStore.shown c.args.depot.now)) c.in-Err.fault c.in-Err.ensures.fault);
   calls = omega arith;
   once = omega arith;
 }
@@ -28,8 +28,8 @@ returns-in-Err-read_inputs-clause-step g c = stepped c.read_inputs.ensures.step
 
 pub returns-in-Err-read_inputs-clause-cause : goal.returns-in-Err-read_inputs-clause-cause
 returns-in-Err-read_inputs-clause-cause g c = λ out next.
-    subst (λ (s : Status). Compares (c.args.retries + 1) c.args.text.now (seen out (g.D.Depot.shown c.args.depot.now)) (seen next (g.D.Depot.shown c.read_inputs.new.depot)) s) (sym c.from-in-Err-read_inputs.ensures)
-    (inputs_end (c.args.retries + 1) c.args.text.now c.in-Ok.said.expr (seen out (g.D.Depot.shown c.args.depot.now)) (seen next (g.D.Depot.shown c.read_inputs.new.depot)) c.in-Err-read_inputs.fault
+    subst (λ (s : Status). Compares (c.args.retries + 1) c.args.text.now (seen out (g.D.PutStore.shown c.args.depot.now)) (seen next (g.D.PutStore.shown c.read_inputs.new.depot)) s) (sym c.from-in-Err-read_inputs.ensures)
+    (inputs_end (c.args.retries + 1) c.args.text.now c.in-Ok.said.expr (seen out (g.D.PutStore.shown c.args.depot.now)) (seen next (g.D.PutStore.shown c.read_inputs.new.depot)) c.in-Err-read_inputs.fault
     c.in-Ok.ensures.said c.in-Err-read_inputs.ensures.cause)
 
 pub returns-in-Err-read_output-clause-step : goal.returns-in-Err-read_output-clause-step
@@ -37,9 +37,9 @@ returns-in-Err-read_output-clause-step g c = stepped_then (stepped c.read_inputs
 
 pub returns-in-Err-read_output-clause-cause : goal.returns-in-Err-read_output-clause-cause
 returns-in-Err-read_output-clause-cause g c = λ out next.
-    subst (λ (s : Status). Compares (c.args.retries + 1) c.args.text.now (seen out (g.D.Depot.shown c.args.depot.now)) (seen next (g.D.Depot.shown c.read_output.new.depot)) s) (sym c.from-in-Err-read_output.ensures)
-    (output_ends (c.args.retries + 1) c.args.text.now c.in-Ok.said.expr c.in-Ok-read_inputs.inputs.items (seen out (g.D.Depot.shown c.args.depot.now)) (seen next (g.D.Depot.shown c.read_output.new.depot))
-    (g.D.Depot.shown c.read_inputs.new.depot) c.in-Err-read_output.fault c.in-Ok.ensures.said c.in-Ok-read_inputs.ensures.names c.in-Ok-read_inputs.ensures.read
+    subst (λ (s : Status). Compares (c.args.retries + 1) c.args.text.now (seen out (g.D.PutStore.shown c.args.depot.now)) (seen next (g.D.PutStore.shown c.read_output.new.depot)) s) (sym c.from-in-Err-read_output.ensures)
+    (output_ends (c.args.retries + 1) c.args.text.now c.in-Ok.said.expr c.in-Ok-read_inputs.inputs.items (seen out (g.D.PutStore.shown c.args.depot.now)) (seen next (g.D.PutStore.shown c.read_output.new.depot))
+    (g.D.PutStore.shown c.read_inputs.new.depot) c.in-Err-read_output.fault c.in-Ok.ensures.said c.in-Ok-read_inputs.ensures.names c.in-Ok-read_inputs.ensures.read
     c.read_inputs.ensures.step.count (steps_then c.read_inputs.ensures.step c.read_output.ensures.step) c.in-Err-read_output.ensures.cause)
 
 pub returns-in-Err-types_in-clause-step : goal.returns-in-Err-types_in-clause-step
@@ -47,10 +47,10 @@ returns-in-Err-types_in-clause-step g c = stepped_then (stepped c.read_inputs.en
 
 pub returns-in-Err-types_in-clause-cause : goal.returns-in-Err-types_in-clause-cause
 returns-in-Err-types_in-clause-cause g c = λ out next.
-    subst (λ (s : Status). Compares (c.args.retries + 1) c.args.text.now (seen out (g.D.Depot.shown c.args.depot.now)) (seen next (g.D.Depot.shown c.read_output.new.depot)) s) (sym c.from-in-Err-types_in.ensures)
-    (untyped_ends (c.args.retries + 1) c.args.text.now c.in-Ok.said.expr c.in-Ok-read_inputs.inputs.items c.in-Ok-read_output.output (seen out (g.D.Depot.shown c.args.depot.now)) (seen next (g.D.Depot.shown c.read_output.new.depot))
+    subst (λ (s : Status). Compares (c.args.retries + 1) c.args.text.now (seen out (g.D.PutStore.shown c.args.depot.now)) (seen next (g.D.PutStore.shown c.read_output.new.depot)) s) (sym c.from-in-Err-types_in.ensures)
+    (untyped_ends (c.args.retries + 1) c.args.text.now c.in-Ok.said.expr c.in-Ok-read_inputs.inputs.items c.in-Ok-read_output.output (seen out (g.D.PutStore.shown c.args.depot.now)) (seen next (g.D.PutStore.shown c.read_output.new.depot))
     c.in-Err-types_in.fault c.in-Ok.ensures.said c.in-Ok-read_inputs.ensures.names c.in-Ok-read_inputs.ensures.read
-    (is_output c.in-Ok.said.expr (g.D.Depot.shown c.args.depot.now) (g.D.Depot.shown c.read_output.new.depot) c.in-Ok-read_output.output (steps_then c.read_inputs.ensures.step c.read_output.ensures.step)
+    (is_output c.in-Ok.said.expr (g.D.PutStore.shown c.args.depot.now) (g.D.PutStore.shown c.read_output.new.depot) c.in-Ok-read_output.output (steps_then c.read_inputs.ensures.step c.read_output.ensures.step)
     c.in-Ok-read_output.ensures.name c.in-Ok-read_output.ensures.layout c.in-Ok-read_output.ensures.found)
     (subst (λ (inputs : List InputInfo). IsUntyped inputs c.in-Ok.said.expr c.in-Err-types_in.fault) c.deref.ensures.value c.in-Err-types_in.ensures.fault))
 
@@ -65,7 +65,7 @@ returns-clause-job g c = record {
 
 pub returns-clause-output : goal.returns-clause-output
 returns-clause-output g c =
-    is_output c.in-Ok.said.expr (g.D.Depot.shown c.args.depot.now) (g.D.Depot.shown c.read_output.new.depot) c.in-Ok-read_output.output (steps_then c.read_inputs.ensures.step c.read_output.ensures.step)
+    is_output c.in-Ok.said.expr (g.D.PutStore.shown c.args.depot.now) (g.D.PutStore.shown c.read_output.new.depot) c.in-Ok-read_output.output (steps_then c.read_inputs.ensures.step c.read_output.ensures.step)
     c.in-Ok-read_output.ensures.name c.in-Ok-read_output.ensures.layout c.in-Ok-read_output.ensures.found
 
 pub returns-clause-step : goal.returns-clause-step
@@ -73,38 +73,38 @@ returns-clause-step g c = stepped_then (stepped c.read_inputs.ensures.step) (ste
 
 pub returns-in-Err-read_inputs-clause-calls : goal.returns-in-Err-read_inputs-clause-calls
 returns-in-Err-read_inputs-clause-calls g c =
-    inputs_within (c.args.retries + 1) c.args.text.now c.in-Ok.said.expr (g.D.Depot.shown c.args.depot.now) (g.D.Depot.shown c.read_inputs.new.depot) c.in-Ok.ensures.said c.read_inputs.ensures.step.calls.1
+    inputs_within (c.args.retries + 1) c.args.text.now c.in-Ok.said.expr (g.D.PutStore.shown c.args.depot.now) (g.D.PutStore.shown c.read_inputs.new.depot) c.in-Ok.ensures.said c.read_inputs.ensures.step.calls.1
 
 pub returns-in-Err-read_output-clause-calls : goal.returns-in-Err-read_output-clause-calls
 returns-in-Err-read_output-clause-calls g c =
-    output_within (c.args.retries + 1) c.args.text.now c.in-Ok.said.expr (g.D.Depot.shown c.args.depot.now) (g.D.Depot.shown c.read_inputs.new.depot) (g.D.Depot.shown c.read_output.new.depot) c.in-Ok.ensures.said
+    output_within (c.args.retries + 1) c.args.text.now c.in-Ok.said.expr (g.D.PutStore.shown c.args.depot.now) (g.D.PutStore.shown c.read_inputs.new.depot) (g.D.PutStore.shown c.read_output.new.depot) c.in-Ok.ensures.said
     c.read_inputs.ensures.step.calls.1 c.read_output.ensures.step.calls.1
 
 pub returns-in-Err-types_in-clause-calls : goal.returns-in-Err-types_in-clause-calls
 returns-in-Err-types_in-clause-calls g c =
-    output_within (c.args.retries + 1) c.args.text.now c.in-Ok.said.expr (g.D.Depot.shown c.args.depot.now) (g.D.Depot.shown c.read_inputs.new.depot) (g.D.Depot.shown c.read_output.new.depot) c.in-Ok.ensures.said
+    output_within (c.args.retries + 1) c.args.text.now c.in-Ok.said.expr (g.D.PutStore.shown c.args.depot.now) (g.D.PutStore.shown c.read_inputs.new.depot) (g.D.PutStore.shown c.read_output.new.depot) c.in-Ok.ensures.said
     c.read_inputs.ensures.step.calls.1 c.read_output.ensures.step.calls.1
 
 pub returns-clause-calls : goal.returns-clause-calls
 returns-clause-calls g c =
-    output_within (c.args.retries + 1) c.args.text.now c.in-Ok.said.expr (g.D.Depot.shown c.args.depot.now) (g.D.Depot.shown c.read_inputs.new.depot) (g.D.Depot.shown c.read_output.new.depot) c.in-Ok.ensures.said
+    output_within (c.args.retries + 1) c.args.text.now c.in-Ok.said.expr (g.D.PutStore.shown c.args.depot.now) (g.D.PutStore.shown c.read_inputs.new.depot) (g.D.PutStore.shown c.read_output.new.depot) c.in-Ok.ensures.said
     c.read_inputs.ensures.step.calls.1 c.read_output.ensures.step.calls.1
 
 pub returns-in-Err-read_inputs-clause-once : goal.returns-in-Err-read_inputs-clause-once
 returns-in-Err-read_inputs-clause-once g c =
-    inputs_once c.args.text.now c.in-Ok.said.expr (g.D.Depot.shown c.args.depot.now) (g.D.Depot.shown c.read_inputs.new.depot) c.in-Ok.ensures.said c.read_inputs.ensures.once
+    inputs_once c.args.text.now c.in-Ok.said.expr (g.D.PutStore.shown c.args.depot.now) (g.D.PutStore.shown c.read_inputs.new.depot) c.in-Ok.ensures.said c.read_inputs.ensures.once
 
 pub returns-in-Err-read_output-clause-once : goal.returns-in-Err-read_output-clause-once
 returns-in-Err-read_output-clause-once g c =
-    output_once c.args.text.now c.in-Ok.said.expr (g.D.Depot.shown c.args.depot.now) (g.D.Depot.shown c.read_inputs.new.depot) (g.D.Depot.shown c.read_output.new.depot) c.in-Ok.ensures.said
+    output_once c.args.text.now c.in-Ok.said.expr (g.D.PutStore.shown c.args.depot.now) (g.D.PutStore.shown c.read_inputs.new.depot) (g.D.PutStore.shown c.read_output.new.depot) c.in-Ok.ensures.said
     c.read_inputs.ensures.once c.read_output.ensures.once
 
 pub returns-in-Err-types_in-clause-once : goal.returns-in-Err-types_in-clause-once
 returns-in-Err-types_in-clause-once g c =
-    output_once c.args.text.now c.in-Ok.said.expr (g.D.Depot.shown c.args.depot.now) (g.D.Depot.shown c.read_inputs.new.depot) (g.D.Depot.shown c.read_output.new.depot) c.in-Ok.ensures.said
+    output_once c.args.text.now c.in-Ok.said.expr (g.D.PutStore.shown c.args.depot.now) (g.D.PutStore.shown c.read_inputs.new.depot) (g.D.PutStore.shown c.read_output.new.depot) c.in-Ok.ensures.said
     c.read_inputs.ensures.once c.read_output.ensures.once
 
 pub returns-clause-once : goal.returns-clause-once
 returns-clause-once g c =
-    output_once c.args.text.now c.in-Ok.said.expr (g.D.Depot.shown c.args.depot.now) (g.D.Depot.shown c.read_inputs.new.depot) (g.D.Depot.shown c.read_output.new.depot) c.in-Ok.ensures.said
+    output_once c.args.text.now c.in-Ok.said.expr (g.D.PutStore.shown c.args.depot.now) (g.D.PutStore.shown c.read_inputs.new.depot) (g.D.PutStore.shown c.read_output.new.depot) c.in-Ok.ensures.said
     c.read_inputs.ensures.once c.read_output.ensures.once

@@ -8,7 +8,7 @@ returns-in_default-clause-step g c = stepped_then c.loop.invariant.step c.read_o
 
 pub returns-in_default-2-clause-read : goal.returns-in_default-2-clause-read
 returns-in_default-2-clause-read g c =
-    held_later c.read_once.result c.args.info.now c.args.coord.now c.read_once.new.chunk (g.D.Depot.shown c.args.depot.now) (g.D.Depot.shown c.loop.depot) c.loop.invariant.step c.read_once.ensures.read
+    held_later c.read_once.result c.args.info.now c.args.coord.now c.read_once.new.chunk (g.D.PutStore.shown c.args.depot.now) (g.D.PutStore.shown c.loop.depot) c.loop.invariant.step c.read_once.ensures.read
 
 pub returns-in_default-2-clause-step : goal.returns-in_default-2-clause-step
 returns-in_default-2-clause-step g c = stepped_then c.loop.invariant.step c.read_once.ensures.step
@@ -24,7 +24,7 @@ loop-preserved g c =
 
 pub returns-clause-read : goal.returns-clause-read
 returns-clause-read g c =
-    held_later c.read_once-2.result c.args.info.now c.args.coord.now c.read_once-2.new.chunk (g.D.Depot.shown c.args.depot.now) (g.D.Depot.shown c.loop.depot) c.loop.invariant.step c.read_once-2.ensures.read
+    held_later c.read_once-2.result c.args.info.now c.args.coord.now c.read_once-2.new.chunk (g.D.PutStore.shown c.args.depot.now) (g.D.PutStore.shown c.loop.depot) c.loop.invariant.step c.read_once-2.ensures.read
 
 pub returns-clause-step : goal.returns-clause-step
 returns-clause-step g c = stepped_then c.loop.invariant.step c.read_once-2.ensures.step

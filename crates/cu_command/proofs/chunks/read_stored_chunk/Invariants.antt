@@ -6,7 +6,7 @@ use Rattle.cu_command.proofs.chunks.read_stored_chunk.Given as goal
 
 abbrev pub invariant-loop : goal.invariant-loop
 invariant-loop g l = record {
-  step : Stepped NoChange (g.D.Depot.shown l.initial.depot) (g.D.Depot.shown l.depot);
-  rose : Rose l.counter (g.D.Depot.shown l.initial.depot).faults (g.D.Depot.shown l.depot).faults;
-  calls : WithinCalls l.counter (g.D.Depot.shown l.initial.depot) (g.D.Depot.shown l.depot);
+  step : Stepped NoChange (g.D.PutStore.shown l.initial.depot) (g.D.PutStore.shown l.depot);
+  rose : Rose l.counter (g.D.PutStore.shown l.initial.depot).faults (g.D.PutStore.shown l.depot).faults;
+  calls : WithinCalls l.counter (g.D.PutStore.shown l.initial.depot) (g.D.PutStore.shown l.depot);
 }

@@ -5,7 +5,7 @@ use Rattle.cu_command.proofs.inputs.read_input.Goals as goal
 
 pub metadata_fault-requires : goal.metadata_fault-requires
 metadata_fault-requires g c =
-    find_status (c.args.retries + 1) (g.D.Depot.shown c.args.depot.now) (g.D.Depot.shown c.find_layout.new.depot) c.key_of_name.result c.in-Err.status c.in-Err.ensures.cause
+    find_status (c.args.retries + 1) (g.D.PutStore.shown c.args.depot.now) (g.D.PutStore.shown c.find_layout.new.depot) c.key_of_name.result c.in-Err.status c.in-Err.ensures.cause
 
 pub returns-in-Err : goal.returns-in-Err
 returns-in-Err g c = record {

@@ -23,8 +23,8 @@ returns-in-Err-clause-step g c =
     let all : names_in c.args.expr.now ≡ names_from (names_of c.loop-node.inputs.items) (name_before c.node-item.result.form rest) =
     ap (λ (ns : List Node). names_from [] (used_names ns)) (sym c.nodes-node-items.ensures.nodes)
     ∙ next_names (names_from [] (used_names nodes)) nodes c.loop-node.node-index c.node-item.result c.loop-node.inputs.items c.loop-node-test.true c.node-item.is c.loop-node.invariant.whole in
-    subst (λ (names : List (List ℕ)). Steps NoChange 0 (2 * (c.args.retries + 1) * length names) (g.D.Depot.shown c.args.depot.now) (g.D.Depot.shown c.read_next.new.depot)) (sym all)
-    (c.in-Err.ensures.step (g.D.Depot.shown c.args.depot.now) rest c.loop-node.invariant.read)
+    subst (λ (names : List (List ℕ)). Steps NoChange 0 (2 * (c.args.retries + 1) * length names) (g.D.PutStore.shown c.args.depot.now) (g.D.PutStore.shown c.read_next.new.depot)) (sym all)
+    (c.in-Err.ensures.step (g.D.PutStore.shown c.args.depot.now) rest c.loop-node.invariant.read)
 
 pub returns-in-Err-clause-once : goal.returns-in-Err-clause-once
 returns-in-Err-clause-once g c =
@@ -33,8 +33,8 @@ returns-in-Err-clause-once g c =
     let all : names_in c.args.expr.now ≡ names_from (names_of c.loop-node.inputs.items) (name_before c.node-item.result.form rest) =
     ap (λ (ns : List Node). names_from [] (used_names ns)) (sym c.nodes-node-items.ensures.nodes)
     ∙ next_names (names_from [] (used_names nodes)) nodes c.loop-node.node-index c.node-item.result c.loop-node.inputs.items c.loop-node-test.true c.node-item.is c.loop-node.invariant.whole in
-    subst (λ (names : List (List ℕ)). OnceEach (2 * length names) (g.D.Depot.shown c.args.depot.now) (g.D.Depot.shown c.read_next.new.depot)) (sym all)
-    (c.in-Err.ensures.once (g.D.Depot.shown c.args.depot.now) rest c.loop-node.invariant.read)
+    subst (λ (names : List (List ℕ)). OnceEach (2 * length names) (g.D.PutStore.shown c.args.depot.now) (g.D.PutStore.shown c.read_next.new.depot)) (sym all)
+    (c.in-Err.ensures.once (g.D.PutStore.shown c.args.depot.now) rest c.loop-node.invariant.read)
 
 pub returns-in-Err-clause-cause : goal.returns-in-Err-clause-cause
 returns-in-Err-clause-cause g c =
@@ -43,8 +43,8 @@ returns-in-Err-clause-cause g c =
     let all : names_in c.args.expr.now ≡ names_from (names_of c.loop-node.inputs.items) (name_before c.node-item.result.form rest) =
     ap (λ (ns : List Node). names_from [] (used_names ns)) (sym c.nodes-node-items.ensures.nodes)
     ∙ next_names (names_from [] (used_names nodes)) nodes c.loop-node.node-index c.node-item.result c.loop-node.inputs.items c.loop-node-test.true c.node-item.is c.loop-node.invariant.whole in
-    subst (λ (names : List (List ℕ)). IsInputFault (c.args.retries + 1) names (g.D.Depot.shown c.args.depot.now) (g.D.Depot.shown c.read_next.new.depot) c.in-Err.fault) (sym all)
-    (c.in-Err.ensures.cause (g.D.Depot.shown c.args.depot.now) rest c.loop-node.invariant.read)
+    subst (λ (names : List (List ℕ)). IsInputFault (c.args.retries + 1) names (g.D.PutStore.shown c.args.depot.now) (g.D.PutStore.shown c.read_next.new.depot) c.in-Err.fault) (sym all)
+    (c.in-Err.ensures.cause (g.D.PutStore.shown c.args.depot.now) rest c.loop-node.invariant.read)
 
 pub loop-node-preserved : goal.loop-node-preserved
 loop-node-preserved g c =
@@ -52,14 +52,14 @@ loop-node-preserved g c =
     record {
       whole = next_names (names_from [] (used_names nodes)) nodes c.loop-node.node-index c.node-item.result c.loop-node.inputs.items c.loop-node-test.true c.node-item.is c.loop-node.invariant.whole
           ∙ sym (c.in-Ok-read_next.ensures.names (used_names (drop (c.loop-node.node-index + 1) nodes)));
-      read = c.in-Ok-read_next.ensures.read (g.D.Depot.shown c.args.depot.now) c.loop-node.invariant.read;
+      read = c.in-Ok-read_next.ensures.read (g.D.PutStore.shown c.args.depot.now) c.loop-node.invariant.read;
       room = written_back 1048577 c.loop-node.room.len c.read_next.new.room c.loop-node.room.items c.in-Ok-read_next.ensures.room c.loop-node.invariant.room (omega arith);
     }
 
 pub loop-node-init : goal.loop-node-init
 loop-node-init g c = record {
   whole = ap (λ (is : List InputInfo). names_from (names_of is) (used_names c.nodes-node-items.result.now)) (sym c.new-inputs.ensures.items);
-  read = subst (λ (is : List InputInfo). HasRead (2 * (c.args.retries + 1)) (g.D.Depot.shown c.args.depot.now) (g.D.Depot.shown c.args.depot.now) is) (sym c.new-inputs.ensures.items) read_none;
+  read = subst (λ (is : List InputInfo). HasRead (2 * (c.args.retries + 1)) (g.D.PutStore.shown c.args.depot.now) (g.D.PutStore.shown c.args.depot.now) is) (sym c.new-inputs.ensures.items) read_none;
   room = c.in-Ok.ensures;
 }
 
@@ -72,9 +72,9 @@ returns g c =
     record {
       names = all;
       read = c.loop-node.invariant.read.read;
-      step = subst (λ (n : ℕ). Steps NoChange 0 (2 * (c.args.retries + 1) * n) (g.D.Depot.shown c.args.depot.now) (g.D.Depot.shown c.loop-node.depot))
+      step = subst (λ (n : ℕ). Steps NoChange 0 (2 * (c.args.retries + 1) * n) (g.D.PutStore.shown c.args.depot.now) (g.D.PutStore.shown c.loop-node.depot))
           (sym (length-map inputs (λ (i : InputInfo). i.name)) ∙ ap length all) c.loop-node.invariant.read.step;
-      once = subst (λ (n : ℕ). OnceEach (2 * n) (g.D.Depot.shown c.args.depot.now) (g.D.Depot.shown c.loop-node.depot))
+      once = subst (λ (n : ℕ). OnceEach (2 * n) (g.D.PutStore.shown c.args.depot.now) (g.D.PutStore.shown c.loop-node.depot))
           (sym (length-map inputs (λ (i : InputInfo). i.name)) ∙ ap length all) c.loop-node.invariant.read.once;
       cause = tt;
     }

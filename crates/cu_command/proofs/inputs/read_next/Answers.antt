@@ -16,9 +16,9 @@ returns-in-Err-clause-cause g c entry rest so_far =
     let old = c.args.inputs.now.items in
     let name = c.in-Input.name in
     let fresh = was_named name old c.deref.result.now c.has_name.result false c.deref.ensures.value c.has_name.ensures c.if-has_name.false in
-    let step : Steps NoChange 0 (2 * (c.args.retries + 1) * (length old + 1)) entry (g.D.Depot.shown c.read_input.new.depot) = step_more (length old) (length old + 1) (omega arith) so_far.step c.read_input.ensures.step in
-    of_form (λ names. IsInputFault (c.args.retries + 1) (names_from (names_of old) names) entry (g.D.Depot.shown c.read_input.new.depot) c.in-Err.fault) c.args.form.now name rest c.in-Input.is
-    (fault_at (c.args.retries + 1) (names_from (names_of old) (name ∷ rest)) entry (g.D.Depot.shown c.args.depot.now) (g.D.Depot.shown c.read_input.new.depot) name c.in-Err.fault
+    let step : Steps NoChange 0 (2 * (c.args.retries + 1) * (length old + 1)) entry (g.D.PutStore.shown c.read_input.new.depot) = step_more (length old) (length old + 1) (omega arith) so_far.step c.read_input.ensures.step in
+    of_form (λ names. IsInputFault (c.args.retries + 1) (names_from (names_of old) names) entry (g.D.PutStore.shown c.read_input.new.depot) c.in-Err.fault) c.args.form.now name rest c.in-Input.is
+    (fault_at (c.args.retries + 1) (names_from (names_of old) (name ∷ rest)) entry (g.D.PutStore.shown c.args.depot.now) (g.D.PutStore.shown c.read_input.new.depot) name c.in-Err.fault
     (turn_of entry old name rest so_far.read fresh) so_far.step step c.in-Err.ensures.cause)
 
 pub returns-in-Err-clause-step : goal.returns-in-Err-clause-step
@@ -26,7 +26,7 @@ returns-in-Err-clause-step g c entry rest so_far =
     let old = c.args.inputs.now.items in
     let name = c.in-Input.name in
     let fresh = was_named name old c.deref.result.now c.has_name.result false c.deref.ensures.value c.has_name.ensures c.if-has_name.false in
-    of_form (λ names. Steps NoChange 0 (2 * (c.args.retries + 1) * length (names_from (names_of old) names)) entry (g.D.Depot.shown c.read_input.new.depot)) c.args.form.now name rest c.in-Input.is
+    of_form (λ names. Steps NoChange 0 (2 * (c.args.retries + 1) * length (names_from (names_of old) names)) entry (g.D.PutStore.shown c.read_input.new.depot)) c.args.form.now name rest c.in-Input.is
     (step_more (length old) (length (names_from (names_of old) (name ∷ rest))) (count_of old name rest fresh) so_far.step c.read_input.ensures.step)
 
 pub returns-in-Err-push-clause-step : goal.returns-in-Err-push-clause-step
@@ -34,7 +34,7 @@ returns-in-Err-push-clause-step g c entry rest so_far =
     let old = c.args.inputs.now.items in
     let name = c.in-Input.name in
     let fresh = was_named name old c.deref.result.now c.has_name.result false c.deref.ensures.value c.has_name.ensures c.if-has_name.false in
-    of_form (λ names. Steps NoChange 0 (2 * (c.args.retries + 1) * length (names_from (names_of old) names)) entry (g.D.Depot.shown c.read_input.new.depot)) c.args.form.now name rest c.in-Input.is
+    of_form (λ names. Steps NoChange 0 (2 * (c.args.retries + 1) * length (names_from (names_of old) names)) entry (g.D.PutStore.shown c.read_input.new.depot)) c.args.form.now name rest c.in-Input.is
     (step_more (length old) (length (names_from (names_of old) (name ∷ rest))) (count_of old name rest fresh) so_far.step c.read_input.ensures.step)
 
 pub returns-in-Err-clause-once : goal.returns-in-Err-clause-once
@@ -42,8 +42,8 @@ returns-in-Err-clause-once g c entry rest so_far =
     let old = c.args.inputs.now.items in
     let name = c.in-Input.name in
     let fresh = was_named name old c.deref.result.now c.has_name.result false c.deref.ensures.value c.has_name.ensures c.if-has_name.false in
-    of_form (λ names. OnceEach (2 * length (names_from (names_of old) names)) entry (g.D.Depot.shown c.read_input.new.depot)) c.args.form.now name rest c.in-Input.is
-    (once_more (length old) (length (names_from (names_of old) (name ∷ rest))) entry (g.D.Depot.shown c.args.depot.now) (g.D.Depot.shown c.read_input.new.depot)
+    of_form (λ names. OnceEach (2 * length (names_from (names_of old) names)) entry (g.D.PutStore.shown c.read_input.new.depot)) c.args.form.now name rest c.in-Input.is
+    (once_more (length old) (length (names_from (names_of old) (name ∷ rest))) entry (g.D.PutStore.shown c.args.depot.now) (g.D.PutStore.shown c.read_input.new.depot)
     (count_of old name rest fresh) so_far.once c.read_input.ensures.once)
 
 pub returns-in-Err-push-clause-once : goal.returns-in-Err-push-clause-once
@@ -51,8 +51,8 @@ returns-in-Err-push-clause-once g c entry rest so_far =
     let old = c.args.inputs.now.items in
     let name = c.in-Input.name in
     let fresh = was_named name old c.deref.result.now c.has_name.result false c.deref.ensures.value c.has_name.ensures c.if-has_name.false in
-    of_form (λ names. OnceEach (2 * length (names_from (names_of old) names)) entry (g.D.Depot.shown c.read_input.new.depot)) c.args.form.now name rest c.in-Input.is
-    (once_more (length old) (length (names_from (names_of old) (name ∷ rest))) entry (g.D.Depot.shown c.args.depot.now) (g.D.Depot.shown c.read_input.new.depot)
+    of_form (λ names. OnceEach (2 * length (names_from (names_of old) names)) entry (g.D.PutStore.shown c.read_input.new.depot)) c.args.form.now name rest c.in-Input.is
+    (once_more (length old) (length (names_from (names_of old) (name ∷ rest))) entry (g.D.PutStore.shown c.args.depot.now) (g.D.PutStore.shown c.read_input.new.depot)
     (count_of old name rest fresh) so_far.once c.read_input.ensures.once)
 
 pub returns-in-Ok-push-clause-names : goal.returns-in-Ok-push-clause-names
@@ -65,6 +65,6 @@ returns-in-Ok-push-clause-names g c rest =
 
 pub returns-in-Ok-push-clause-read : goal.returns-in-Ok-push-clause-read
 returns-in-Ok-push-clause-read g c entry so_far =
-    let holds = subst (λ (n : List ℕ). FindsLayout (g.D.Depot.shown c.args.depot.now).held (g.D.Depot.shown c.read_input.new.depot).held n c.in-Ok.input.layout) (sym c.in-Ok.ensures.name) c.in-Ok.ensures.found in
-    read_more entry (g.D.Depot.shown c.args.depot.now) (g.D.Depot.shown c.read_input.new.depot) c.args.inputs.now.items c.push.new.self.items c.in-Ok.input so_far c.in-Ok-push.ensures.items
+    let holds = subst (λ (n : List ℕ). FindsLayout (g.D.PutStore.shown c.args.depot.now).held (g.D.PutStore.shown c.read_input.new.depot).held n c.in-Ok.input.layout) (sym c.in-Ok.ensures.name) c.in-Ok.ensures.found in
+    read_more entry (g.D.PutStore.shown c.args.depot.now) (g.D.PutStore.shown c.read_input.new.depot) c.args.inputs.now.items c.push.new.self.items c.in-Ok.input so_far c.in-Ok-push.ensures.items
     c.in-Ok.ensures.layout holds c.read_input.ensures.step c.read_input.ensures.once

@@ -5,8 +5,8 @@ use Rattle.cu_command.proofs.inputs.read_written.Goals as goal
 
 pub metadata_fault-requires : goal.metadata_fault-requires
 metadata_fault-requires g c =
-    let old = g.D.Depot.shown c.args.depot.now in
-    let new = g.D.Depot.shown c.read_layout.new.depot in
+    let old = g.D.PutStore.shown c.args.depot.now in
+    let new = g.D.PutStore.shown c.read_layout.new.depot in
     metadata_status (c.args.retries + 1) old.faults new.faults new.held c.key_of_name.result c.in-Err.status c.in-Err.ensures.cause
 
 pub returns-in-Err : goal.returns-in-Err

@@ -7,7 +7,7 @@ use Rattle.cu_command.proofs.JobLemmas.{unread_fault, untyped_fault, input_fault
 use Rattle.cu_command.proofs.job.read_job.Goals as goal
 
 unread : goal.returns-in-Err-clause-cause
-unread g c = unread_fault (c.args.retries + 1) c.args.text.now (g.D.Depot.shown c.args.depot.now) (g.D.Depot.shown c.args.depot.now) c.in-Err.fault c.in-Err.ensures.fault
+unread g c = unread_fault (c.args.retries + 1) c.args.text.now (g.D.PutStore.shown c.args.depot.now) (g.D.PutStore.shown c.args.depot.now) c.in-Err.fault c.in-Err.ensures.fault
 
 pub returns-in-Err-clause-cause : goal.returns-in-Err-clause-cause
 returns-in-Err-clause-cause g c = unread g c
@@ -17,11 +17,11 @@ returns-in-Err-clause-step g c = no_step (2 * (c.args.retries + 1) * length (nam
 
 pub returns-in-Err-clause-complete : goal.returns-in-Err-clause-complete
 returns-in-Err-clause-complete g c typable still =
-    only_memory c.args.retries c.args.text.now (g.D.Depot.shown c.args.depot.now) (g.D.Depot.shown c.args.depot.now) c.in-Err.fault typable still (unread g c)
+    only_memory c.args.retries c.args.text.now (g.D.PutStore.shown c.args.depot.now) (g.D.PutStore.shown c.args.depot.now) c.in-Err.fault typable still (unread g c)
 
 unheld : goal.returns-in-Err-read_inputs-clause-cause
 unheld g c =
-    input_fault (c.args.retries + 1) c.args.text.now c.in-Ok.said.expr (g.D.Depot.shown c.args.depot.now) (g.D.Depot.shown c.read_inputs.new.depot) c.in-Err-read_inputs.fault
+    input_fault (c.args.retries + 1) c.args.text.now c.in-Ok.said.expr (g.D.PutStore.shown c.args.depot.now) (g.D.PutStore.shown c.read_inputs.new.depot) c.in-Err-read_inputs.fault
     c.in-Ok.ensures.said c.in-Err-read_inputs.ensures.cause
 
 pub returns-in-Err-read_inputs-clause-cause : goal.returns-in-Err-read_inputs-clause-cause
@@ -29,15 +29,15 @@ returns-in-Err-read_inputs-clause-cause g c = unheld g c
 
 pub returns-in-Err-read_inputs-clause-step : goal.returns-in-Err-read_inputs-clause-step
 returns-in-Err-read_inputs-clause-step g c =
-    said_step (2 * (c.args.retries + 1)) c.args.text.now c.in-Ok.said.expr (g.D.Depot.shown c.args.depot.now) (g.D.Depot.shown c.read_inputs.new.depot) c.in-Ok.ensures.said c.read_inputs.ensures.step
+    said_step (2 * (c.args.retries + 1)) c.args.text.now c.in-Ok.said.expr (g.D.PutStore.shown c.args.depot.now) (g.D.PutStore.shown c.read_inputs.new.depot) c.in-Ok.ensures.said c.read_inputs.ensures.step
 
 pub returns-in-Err-read_inputs-clause-complete : goal.returns-in-Err-read_inputs-clause-complete
 returns-in-Err-read_inputs-clause-complete g c typable still =
-    only_memory c.args.retries c.args.text.now (g.D.Depot.shown c.args.depot.now) (g.D.Depot.shown c.read_inputs.new.depot) c.in-Err-read_inputs.fault typable still (unheld g c)
+    only_memory c.args.retries c.args.text.now (g.D.PutStore.shown c.args.depot.now) (g.D.PutStore.shown c.read_inputs.new.depot) c.in-Err-read_inputs.fault typable still (unheld g c)
 
 untyped : goal.returns-in-Err-types_in-clause-cause
 untyped g c =
-    untyped_fault (c.args.retries + 1) c.args.text.now c.in-Ok.said.expr c.in-Ok-read_inputs.inputs.items (g.D.Depot.shown c.args.depot.now) (g.D.Depot.shown c.read_inputs.new.depot)
+    untyped_fault (c.args.retries + 1) c.args.text.now c.in-Ok.said.expr c.in-Ok-read_inputs.inputs.items (g.D.PutStore.shown c.args.depot.now) (g.D.PutStore.shown c.read_inputs.new.depot)
     c.in-Err-types_in.fault c.in-Ok.ensures.said c.in-Ok-read_inputs.ensures.names c.in-Ok-read_inputs.ensures.read
     (subst (λ (is : List InputInfo). IsUntyped is c.in-Ok.said.expr c.in-Err-types_in.fault) c.deref.ensures.value c.in-Err-types_in.ensures.fault)
 
@@ -46,14 +46,14 @@ returns-in-Err-types_in-clause-cause g c = untyped g c
 
 pub returns-in-Err-types_in-clause-step : goal.returns-in-Err-types_in-clause-step
 returns-in-Err-types_in-clause-step g c =
-    said_step (2 * (c.args.retries + 1)) c.args.text.now c.in-Ok.said.expr (g.D.Depot.shown c.args.depot.now) (g.D.Depot.shown c.read_inputs.new.depot) c.in-Ok.ensures.said c.read_inputs.ensures.step
+    said_step (2 * (c.args.retries + 1)) c.args.text.now c.in-Ok.said.expr (g.D.PutStore.shown c.args.depot.now) (g.D.PutStore.shown c.read_inputs.new.depot) c.in-Ok.ensures.said c.read_inputs.ensures.step
 
 pub returns-in-Err-types_in-clause-complete : goal.returns-in-Err-types_in-clause-complete
 returns-in-Err-types_in-clause-complete g c typable still =
-    only_memory c.args.retries c.args.text.now (g.D.Depot.shown c.args.depot.now) (g.D.Depot.shown c.read_inputs.new.depot) c.in-Err-types_in.fault typable still (untyped g c)
+    only_memory c.args.retries c.args.text.now (g.D.PutStore.shown c.args.depot.now) (g.D.PutStore.shown c.read_inputs.new.depot) c.in-Err-types_in.fault typable still (untyped g c)
 
 pub types_in-requires : goal.types_in-requires
-types_in-requires g c = layouts_of (g.D.Depot.shown c.args.depot.now) c.in-Ok-read_inputs.inputs.items _ c.deref.ensures.value c.in-Ok-read_inputs.ensures.read
+types_in-requires g c = layouts_of (g.D.PutStore.shown c.args.depot.now) c.in-Ok-read_inputs.inputs.items _ c.deref.ensures.value c.in-Ok-read_inputs.ensures.read
 
 pub returns-clause-job : goal.returns-clause-job
 returns-clause-job g c = record {
@@ -66,19 +66,19 @@ returns-clause-job g c = record {
 
 pub returns-clause-step : goal.returns-clause-step
 returns-clause-step g c =
-    said_step (2 * (c.args.retries + 1)) c.args.text.now c.in-Ok.said.expr (g.D.Depot.shown c.args.depot.now) (g.D.Depot.shown c.read_inputs.new.depot) c.in-Ok.ensures.said c.read_inputs.ensures.step
+    said_step (2 * (c.args.retries + 1)) c.args.text.now c.in-Ok.said.expr (g.D.PutStore.shown c.args.depot.now) (g.D.PutStore.shown c.read_inputs.new.depot) c.in-Ok.ensures.said c.read_inputs.ensures.step
 
 pub returns-in-Err-clause-once : goal.returns-in-Err-clause-once
 returns-in-Err-clause-once g c = omega arith
 
 pub returns-in-Err-read_inputs-clause-once : goal.returns-in-Err-read_inputs-clause-once
 returns-in-Err-read_inputs-clause-once g c =
-    said_once c.args.text.now c.in-Ok.said.expr (g.D.Depot.shown c.args.depot.now) (g.D.Depot.shown c.read_inputs.new.depot) c.in-Ok.ensures.said c.read_inputs.ensures.once
+    said_once c.args.text.now c.in-Ok.said.expr (g.D.PutStore.shown c.args.depot.now) (g.D.PutStore.shown c.read_inputs.new.depot) c.in-Ok.ensures.said c.read_inputs.ensures.once
 
 pub returns-in-Err-types_in-clause-once : goal.returns-in-Err-types_in-clause-once
 returns-in-Err-types_in-clause-once g c =
-    said_once c.args.text.now c.in-Ok.said.expr (g.D.Depot.shown c.args.depot.now) (g.D.Depot.shown c.read_inputs.new.depot) c.in-Ok.ensures.said c.read_inputs.ensures.once
+    said_once c.args.text.now c.in-Ok.said.expr (g.D.PutStore.shown c.args.depot.now) (g.D.PutStore.shown c.read_inputs.new.depot) c.in-Ok.ensures.said c.read_inputs.ensures.once
 
 pub returns-clause-once : goal.returns-clause-once
 returns-clause-once g c =
-    said_once c.args.text.now c.in-Ok.said.expr (g.D.Depot.shown c.args.depot.now) (g.D.Depot.shown c.read_inputs.new.depot) c.in-Ok.ensures.said c.read_inputs.ensures.once
+    said_once c.args.text.now c.in-Ok.said.expr (g.D.PutStore.shown c.args.depot.now) (g.D.PutStore.shown c.read_inputs.new.depot) c.in-Ok.ensures.said c.read_inputs.ensures.once

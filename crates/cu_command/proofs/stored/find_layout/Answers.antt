@@ -8,9 +8,9 @@ use Rattle.cu_command.proofs.stored.find_layout.Goals as goal
 pub returns-in-Err-NoArray : goal.returns-in-Err-NoArray
 returns-in-Err-NoArray g c =
     let tries = c.args.retries + 1 in
-    let old = g.D.Depot.shown c.args.depot.now in
-    let mid = g.D.Depot.shown c.read_layout.new.depot in
-    let new = g.D.Depot.shown c.read_layout_of_v2.new.depot in
+    let old = g.D.PutStore.shown c.args.depot.now in
+    let mid = g.D.PutStore.shown c.read_layout.new.depot in
+    let new = g.D.PutStore.shown c.read_layout_of_v2.new.depot in
     let name = c.args.name.now in
     let gone = (rw c.in-Err-NoArray.field-0-is at c.in-Err-NoArray.ensures.cause).1 in
     let both : Steps NoChange 1 (2 * tries) old new =

@@ -9,22 +9,22 @@ use Rattle.cu_load.proofs.command.store_form.Goals as goal
 
 pub returns-in-Err : goal.returns-in-Err
 returns-in-Err g c = record {
-  answer = ask_ended c.args.retries (given_by c.args.form.now) c.key_of_name-name.result _ (g.D.Depot.shown c.args.depot.now) (g.D.Depot.shown c.ask_keys.new.depot) c.in-Err.status c.key_of_name-name.ensures.key
+  answer = ask_ended c.args.retries (given_by c.args.form.now) c.key_of_name-name.result _ (g.D.PutStore.shown c.args.depot.now) (g.D.PutStore.shown c.ask_keys.new.depot) c.in-Err.status c.key_of_name-name.ensures.key
       (stepped c.ask_keys.ensures.step) c.in-Err.ensures.refused;
-  calls = within_few 3 (chunks_in (given_by c.args.form.now) + 4) (c.args.retries + 1) (g.D.Depot.shown c.args.depot.now) (g.D.Depot.shown c.ask_keys.new.depot) (omega arith) c.ask_keys.ensures.step.calls.1;
-  once = once_few 3 (chunks_in (given_by c.args.form.now) + 4) (g.D.Depot.shown c.args.depot.now) (g.D.Depot.shown c.ask_keys.new.depot) (omega arith) c.ask_keys.ensures.once;
+  calls = within_few 3 (chunks_in (given_by c.args.form.now) + 4) (c.args.retries + 1) (g.D.PutStore.shown c.args.depot.now) (g.D.PutStore.shown c.ask_keys.new.depot) (omega arith) c.ask_keys.ensures.step.calls.1;
+  once = once_few 3 (chunks_in (given_by c.args.form.now) + 4) (g.D.PutStore.shown c.args.depot.now) (g.D.PutStore.shown c.ask_keys.new.depot) (omega arith) c.ask_keys.ensures.once;
 }
 
 pub returns-in_default-take_room : goal.returns-in_default-take_room
 returns-in_default-take_room g c = record {
   answer = (refl, inl (stepped c.ask_keys.ensures.step));
-  calls = within_few 3 (chunks_in (given_by c.args.form.now) + 4) (c.args.retries + 1) (g.D.Depot.shown c.args.depot.now) (g.D.Depot.shown c.ask_keys.new.depot) (omega arith) c.ask_keys.ensures.step.calls.1;
-  once = once_few 3 (chunks_in (given_by c.args.form.now) + 4) (g.D.Depot.shown c.args.depot.now) (g.D.Depot.shown c.ask_keys.new.depot) (omega arith) c.ask_keys.ensures.once;
+  calls = within_few 3 (chunks_in (given_by c.args.form.now) + 4) (c.args.retries + 1) (g.D.PutStore.shown c.args.depot.now) (g.D.PutStore.shown c.ask_keys.new.depot) (omega arith) c.ask_keys.ensures.step.calls.1;
+  once = once_few 3 (chunks_in (given_by c.args.form.now) + 4) (g.D.PutStore.shown c.args.depot.now) (g.D.PutStore.shown c.ask_keys.new.depot) (omega arith) c.ask_keys.ensures.once;
 }
 
 pub returns-in-Ok-report : goal.returns-in-Ok-report
 returns-in-Ok-report g c =
-    let free = subst (λ (n : List ℕ). AreFree n (g.D.Depot.shown c.args.depot.now).held) c.key_of_name-name.ensures.key c.in_default.ensures.free in
+    let free = subst (λ (n : List ℕ). AreFree n (g.D.PutStore.shown c.args.depot.now).held) c.key_of_name-name.ensures.key c.in_default.ensures.free in
     record {
       answer = (
         record {
@@ -35,15 +35,15 @@ returns-in-Ok-report g c =
         },
         c.in-Ok-report.ensures.all,
       );
-      calls = load_calls (chunks_in (given_by c.args.form.now)) (c.args.retries + 1) (g.D.Depot.shown c.args.depot.now) (g.D.Depot.shown c.ask_keys.new.depot) (g.D.Depot.shown c.store_array.new.depot) c.ask_keys.ensures.step.calls.1
+      calls = load_calls (chunks_in (given_by c.args.form.now)) (c.args.retries + 1) (g.D.PutStore.shown c.args.depot.now) (g.D.PutStore.shown c.ask_keys.new.depot) (g.D.PutStore.shown c.store_array.new.depot) c.ask_keys.ensures.step.calls.1
           c.store_array.ensures.calls;
-      once = load_once (chunks_in (given_by c.args.form.now)) (g.D.Depot.shown c.args.depot.now) (g.D.Depot.shown c.ask_keys.new.depot) (g.D.Depot.shown c.store_array.new.depot) c.ask_keys.ensures.once
+      once = load_once (chunks_in (given_by c.args.form.now)) (g.D.PutStore.shown c.args.depot.now) (g.D.PutStore.shown c.ask_keys.new.depot) (g.D.PutStore.shown c.store_array.new.depot) c.ask_keys.ensures.once
           c.store_array.ensures.once;
     }
 
 pub returns-in-Ok-store_array : goal.returns-in-Ok-store_array
 returns-in-Ok-store_array g c =
-    let free = subst (λ (n : List ℕ). AreFree n (g.D.Depot.shown c.args.depot.now).held) c.key_of_name-name.ensures.key c.in_default.ensures.free in
+    let free = subst (λ (n : List ℕ). AreFree n (g.D.PutStore.shown c.args.depot.now).held) c.key_of_name-name.ensures.key c.in_default.ensures.free in
     record {
       answer = (
         c.in-Err-report.ensures.cause,
@@ -55,20 +55,20 @@ returns-in-Ok-store_array g c =
         },
         c.in-Err-report.ensures.front,
       );
-      calls = load_calls (chunks_in (given_by c.args.form.now)) (c.args.retries + 1) (g.D.Depot.shown c.args.depot.now) (g.D.Depot.shown c.ask_keys.new.depot) (g.D.Depot.shown c.store_array.new.depot) c.ask_keys.ensures.step.calls.1
+      calls = load_calls (chunks_in (given_by c.args.form.now)) (c.args.retries + 1) (g.D.PutStore.shown c.args.depot.now) (g.D.PutStore.shown c.ask_keys.new.depot) (g.D.PutStore.shown c.store_array.new.depot) c.ask_keys.ensures.step.calls.1
           c.store_array.ensures.calls;
-      once = load_once (chunks_in (given_by c.args.form.now)) (g.D.Depot.shown c.args.depot.now) (g.D.Depot.shown c.ask_keys.new.depot) (g.D.Depot.shown c.store_array.new.depot) c.ask_keys.ensures.once
+      once = load_once (chunks_in (given_by c.args.form.now)) (g.D.PutStore.shown c.args.depot.now) (g.D.PutStore.shown c.ask_keys.new.depot) (g.D.PutStore.shown c.store_array.new.depot) c.ask_keys.ensures.once
           c.store_array.ensures.once;
     }
 
 pub returns : goal.returns
 returns g c =
-    let free = subst (λ (n : List ℕ). AreFree n (g.D.Depot.shown c.args.depot.now).held) c.key_of_name-name.ensures.key c.in_default.ensures.free in
+    let free = subst (λ (n : List ℕ). AreFree n (g.D.PutStore.shown c.args.depot.now).held) c.key_of_name-name.ensures.key c.in_default.ensures.free in
     record {
-      answer = store_ended c.args.retries (given_by c.args.form.now) _ (g.D.Depot.shown c.args.depot.now) (g.D.Depot.shown c.ask_keys.new.depot) (g.D.Depot.shown c.store_array.new.depot) c.in-Err-store_array.status free
+      answer = store_ended c.args.retries (given_by c.args.form.now) _ (g.D.PutStore.shown c.args.depot.now) (g.D.PutStore.shown c.ask_keys.new.depot) (g.D.PutStore.shown c.store_array.new.depot) c.in-Err-store_array.status free
           (stepped c.ask_keys.ensures.step) c.in-Err-store_array.ensures.failed;
-      calls = load_calls (chunks_in (given_by c.args.form.now)) (c.args.retries + 1) (g.D.Depot.shown c.args.depot.now) (g.D.Depot.shown c.ask_keys.new.depot) (g.D.Depot.shown c.store_array.new.depot) c.ask_keys.ensures.step.calls.1
+      calls = load_calls (chunks_in (given_by c.args.form.now)) (c.args.retries + 1) (g.D.PutStore.shown c.args.depot.now) (g.D.PutStore.shown c.ask_keys.new.depot) (g.D.PutStore.shown c.store_array.new.depot) c.ask_keys.ensures.step.calls.1
           c.store_array.ensures.calls;
-      once = load_once (chunks_in (given_by c.args.form.now)) (g.D.Depot.shown c.args.depot.now) (g.D.Depot.shown c.ask_keys.new.depot) (g.D.Depot.shown c.store_array.new.depot) c.ask_keys.ensures.once
+      once = load_once (chunks_in (given_by c.args.form.now)) (g.D.PutStore.shown c.args.depot.now) (g.D.PutStore.shown c.ask_keys.new.depot) (g.D.PutStore.shown c.store_array.new.depot) c.ask_keys.ensures.once
           c.store_array.ensures.once;
     }

@@ -7,8 +7,8 @@ use Rattle.cu_load.proofs.store.store_chunks.Given as goal
 
 abbrev pub invariant-loop-number : goal.invariant-loop-number
 invariant-loop-number g l = record {
-  step : Stepped (ChunksPut (given_by l.form) l.number) (g.D.Depot.shown l.fn.depot) (g.D.Depot.shown l.depot);
-  stored : IsArrayCalm (given_by l.form) (g.D.Depot.shown l.fn.depot).late → HoldsChunks (given_by l.form) (g.D.Depot.shown l.depot).held l.number;
-  calls : WithinCalls (l.number * (l.retries + 1)) (g.D.Depot.shown l.fn.depot) (g.D.Depot.shown l.depot);
-  once : OnceEach l.number (g.D.Depot.shown l.fn.depot) (g.D.Depot.shown l.depot);
+  step : Stepped (ChunksPut (given_by l.form) l.number) (g.D.PutStore.shown l.fn.depot) (g.D.PutStore.shown l.depot);
+  stored : IsArrayCalm (given_by l.form) (g.D.PutStore.shown l.fn.depot).late → HoldsChunks (given_by l.form) (g.D.PutStore.shown l.depot).held l.number;
+  calls : WithinCalls (l.number * (l.retries + 1)) (g.D.PutStore.shown l.fn.depot) (g.D.PutStore.shown l.depot);
+  once : OnceEach l.number (g.D.PutStore.shown l.fn.depot) (g.D.PutStore.shown l.depot);
 }

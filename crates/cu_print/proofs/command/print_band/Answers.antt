@@ -36,19 +36,19 @@ first_is : (g : Over) (c : After-row_of-row g) → c.run_from-region.result.lo �
 first_is g c = c.run_from-region.ensures.lo ∙ c.index_of.ensures.index ∙ ap (λ shape. index_at shape c.args.place.start) c.shape-shape.ensures.value
 
 ready : (g : Over) (c : After-row_of-row g) → (c.ready_of-ready.result ≤ product (differences c.run_from-region.result.hi c.run_from-region.result.lo))
-    × HasFirst c.args.place.array.info.now c.run_from-region.result (g.D.Depot.shown c.args.depot.now) c.ready_of-ready.result c.read_band-read.new.out
+    × HasFirst c.args.place.array.info.now c.run_from-region.result (g.D.PutStore.shown c.args.depot.now) c.ready_of-ready.result c.read_band-read.new.out
 ready g c =
-    ready_read c.read_band-read.result c.args.place.array.info.now c.run_from-region.result (c.args.retries + 1) (g.D.Depot.shown c.args.depot.now) (g.D.Depot.shown c.read_band-read.new.depot)
+    ready_read c.read_band-read.result c.args.place.array.info.now c.run_from-region.result (c.args.retries + 1) (g.D.PutStore.shown c.args.depot.now) (g.D.PutStore.shown c.read_band-read.new.depot)
     c.read_band-read.new.out c.ready_of-ready.result
     (on_ok c.read_band-read.result (c.ready_of-ready.result ≡ c.elements-count.result) (c.ready_of-ready.result ≡ product (differences c.run_from-region.result.hi c.run_from-region.result.lo))
     (λ same. same ∙ c.elements-count.ensures ∙ ap product c.extents.ensures) c.ready_of-ready.ensures.all)
     c.ready_of-ready.ensures.front c.read_band-read.ensures.all c.read_band-read.ensures.front c.read_band-read.ensures.unread
 
-read : (g : Over) (c : After-row_of-row g) → AreFrom c.args.place.array.info.now.prefix c.args.place.array.info.now.layout c.args.place.start (g.D.Depot.shown c.args.depot.now)
+read : (g : Over) (c : After-row_of-row g) → AreFrom c.args.place.array.info.now.prefix c.args.place.array.info.now.layout c.args.place.start (g.D.PutStore.shown c.args.depot.now)
     (numbers_of c.args.place.array.info.now.layout.dtype c.read_band-read.new.out c.ready_of-ready.result)
 read g c =
     run_elements c.args.place.array.info.now c.args.place.array.bands.now c.run_from-region.result c.args.place.start c.requires.bands.shape c.run_from-region.ensures.run c.requires.start (first_is g c)
-    c.read_band-read.new.out (g.D.Depot.shown c.args.depot.now) c.ready_of-ready.result (ready g c).0 (ready g c).1
+    c.read_band-read.new.out (g.D.PutStore.shown c.args.depot.now) c.ready_of-ready.result (ready g c).0 (ready g c).1
 
 within : (g : Over) (c : After-row_of-row g) → c.args.place.start + product (differences c.run_from-region.result.hi c.run_from-region.result.lo) ≤ product c.args.place.array.info.now.layout.grid.shape
 within g c = run_within c.args.place.array.info.now c.args.place.array.bands.now c.run_from-region.result c.args.place.start c.requires.bands.shape c.run_from-region.ensures.run c.requires.start (first_is g c)
@@ -80,7 +80,7 @@ write_elements-requires-clause-bytes g c =
 
 prints : (g : Over) (c : After-row_of-row g) (after : Option (List ℕ))
     → WroteAll (g.W.Sink.written c.args.out.now) after (elements_text c.args.place.array.info.now.layout.dtype c.row_of-row.result c.args.place.start (numbers_of c.args.place.array.info.now.layout.dtype c.read_band-read.new.out c.ready_of-ready.result))
-    → PrintsRun c.args.place.array.info.now c.args.place.start (g.D.Depot.shown c.args.depot.now) (g.W.Sink.written c.args.out.now) after c.ready_of-ready.result
+    → PrintsRun c.args.place.array.info.now c.args.place.start (g.D.PutStore.shown c.args.depot.now) (g.W.Sink.written c.args.out.now) after c.ready_of-ready.result
 prints g c after wrote = record {
   ys = numbers_of c.args.place.array.info.now.layout.dtype c.read_band-read.new.out c.ready_of-ready.result;
   long = length-numbers_of c.args.place.array.info.now.layout.dtype c.read_band-read.new.out c.ready_of-ready.result;
@@ -91,8 +91,8 @@ prints g c after wrote = record {
 
 pub returns-in-Err-clause-fault : goal.returns-in-Err-clause-fault
 returns-in-Err-clause-fault g c =
-    write_fault (c.args.retries + 1) c.args.place.array.info.now c.args.place.start (seen (stream (g.W.Sink.written c.args.out.now) (g.W.Sink.faults c.args.out.now)) (g.D.Depot.shown c.args.depot.now))
-    (seen (stream (g.W.Sink.written c.write_elements.new.out) (g.W.Sink.faults c.write_elements.new.out)) (g.D.Depot.shown c.read_band-read.new.depot)) c.requires.start c.in-Err.ensures.cause (
+    write_fault (c.args.retries + 1) c.args.place.array.info.now c.args.place.start (seen (stream (g.W.Sink.written c.args.out.now) (g.W.Sink.faults c.args.out.now)) (g.D.PutStore.shown c.args.depot.now))
+    (seen (stream (g.W.Sink.written c.write_elements.new.out) (g.W.Sink.faults c.write_elements.new.out)) (g.D.PutStore.shown c.read_band-read.new.depot)) c.requires.start c.in-Err.ensures.cause (
       numbers_of c.args.place.array.info.now.layout.dtype c.read_band-read.new.out c.ready_of-ready.result,
       read g (goal.at.returns-in-Err-clause-fault g c).After-row_of-row,
       subst (λ (row : ℕ). WroteSome (g.W.Sink.written c.args.out.now) (g.W.Sink.written c.write_elements.new.out) (elements_text c.args.place.array.info.now.layout.dtype row c.args.place.start (numbers_of c.args.place.array.info.now.layout.dtype c.read_band-read.new.out c.ready_of-ready.result)))
@@ -101,13 +101,13 @@ returns-in-Err-clause-fault g c =
 
 pub returns-in-Ok-read-clause-prints : goal.returns-in-Ok-read-clause-prints
 returns-in-Ok-read-clause-prints g c =
-    subst (λ (n : ℕ). PrintsRun c.args.place.array.info.now c.args.place.start (g.D.Depot.shown c.args.depot.now) (g.W.Sink.written c.args.out.now) (g.W.Sink.written c.write_elements.new.out) n)
+    subst (λ (n : ℕ). PrintsRun c.args.place.array.info.now c.args.place.start (g.D.PutStore.shown c.args.depot.now) (g.W.Sink.written c.args.out.now) (g.W.Sink.written c.write_elements.new.out) n)
     (ok_is c.read_band-read.result (c.ready_of-ready.result ≡ c.elements-count.result) _ c.in-Ok-read.is c.ready_of-ready.ensures.all)
     (prints g (goal.at.returns-in-Ok-read-clause-prints g c).After-row_of-row (g.W.Sink.written c.write_elements.new.out) c.in-Ok.ensures.all)
 
 pub returns-in-Err-read-clause-fault : goal.returns-in-Err-read-clause-fault
 returns-in-Err-read-clause-fault g c =
-    let unread = err_is c.read_band-read.result (IsBandUnread (c.args.retries + 1) (g.D.Depot.shown c.args.depot.now) (g.D.Depot.shown c.read_band-read.new.depot) c.args.place.array.info.now c.run_from-region.result) c.in-Err-read.unread c.in-Err-read.is c.read_band-read.ensures.unread in
+    let unread = err_is c.read_band-read.result (IsBandUnread (c.args.retries + 1) (g.D.PutStore.shown c.args.depot.now) (g.D.PutStore.shown c.read_band-read.new.depot) c.args.place.array.info.now c.run_from-region.result) c.in-Err-read.unread c.in-Err-read.is c.read_band-read.ensures.unread in
     let same = err_is c.read_band-read.result (λ unread. c.ready_of-ready.result ≡ unread.ready) c.in-Err-read.unread c.in-Err-read.is c.ready_of-ready.ensures.front in
     let here = run_place c.args.place.array.info.now c.args.place.array.bands.now c.run_from-region.result c.args.place.start c.requires.bands.shape c.run_from-region.ensures.run c.requires.start (first_is g (goal.at.returns-in-Err-read-clause-fault g c).After-row_of-row) unread.idx unread.within in
     let place : c.args.place.start + place_within c.run_from-region.result.lo c.run_from-region.result.hi unread.idx ≡ c.args.place.start + c.ready_of-ready.result = ap (λ n. c.args.place.start + n) (unread.place ∙ sym same) in
@@ -117,8 +117,8 @@ returns-in-Err-read-clause-fault g c =
       prints = prints g (goal.at.returns-in-Err-read-clause-fault g c).After-row_of-row (g.W.Sink.written c.write_elements.new.out) c.in-Ok.ensures.all;
       below = subst (λ (n : ℕ). n < product c.args.place.array.info.now.layout.grid.shape) place here.0;
       ended = read_fault (c.args.retries + 1) c.args.place.array.info.now (c.args.place.start + c.ready_of-ready.result) unread.idx
-          (seen (stream (g.W.Sink.written c.write_elements.new.out) (g.W.Sink.faults c.args.out.now)) (g.D.Depot.shown c.args.depot.now))
-          (seen (stream (g.W.Sink.written c.write_elements.new.out) (g.W.Sink.faults c.write_elements.new.out)) (g.D.Depot.shown c.read_band-read.new.depot)) c.in-Err-read.unread.status refl
+          (seen (stream (g.W.Sink.written c.write_elements.new.out) (g.W.Sink.faults c.args.out.now)) (g.D.PutStore.shown c.args.depot.now))
+          (seen (stream (g.W.Sink.written c.write_elements.new.out) (g.W.Sink.faults c.write_elements.new.out)) (g.D.PutStore.shown c.read_band-read.new.depot)) c.in-Err-read.unread.status refl
           (subst (λ (n : ℕ). index_at c.args.place.array.info.now.layout.grid.shape n ≡ unread.idx) place here.1) unread.ended;
     }
 
@@ -138,16 +138,16 @@ pub returns-in-Ok-read-clause-calls : goal.returns-in-Ok-read-clause-calls
 returns-in-Ok-read-clause-calls g c axis sizes starts =
     let here = (goal.at.returns-in-Ok-read-clause-calls g c).After-row_of-row in
     let whole : product (differences c.run_from-region.result.hi c.run_from-region.result.lo) ≡ c.elements-count.result = sym (c.elements-count.ensures ∙ ap product c.extents.ensures) in
-    subst (IsBandRead (c.args.retries + 1) axis c.args.place.array.info.now.layout.grid c.args.place.start (g.D.Depot.shown c.args.depot.now) (g.D.Depot.shown c.read_band-read.new.depot)) whole
-    (band_read (c.args.retries + 1) axis c.args.place.array.info.now.layout.grid c.args.place.start c.run_from-region.result.lo c.run_from-region.result.hi (g.D.Depot.shown c.args.depot.now) (g.D.Depot.shown c.read_band-read.new.depot)
+    subst (IsBandRead (c.args.retries + 1) axis c.args.place.array.info.now.layout.grid c.args.place.start (g.D.PutStore.shown c.args.depot.now) (g.D.PutStore.shown c.read_band-read.new.depot)) whole
+    (band_read (c.args.retries + 1) axis c.args.place.array.info.now.layout.grid c.args.place.start c.run_from-region.result.lo c.run_from-region.result.hi (g.D.PutStore.shown c.args.depot.now) (g.D.PutStore.shown c.read_band-read.new.depot)
     (step g here axis sizes starts) c.read_band-read.ensures.calls c.read_band-read.ensures.once)
 
 pub returns-in-Err-clause-calls_end : goal.returns-in-Err-clause-calls_end
 returns-in-Err-clause-calls_end g c axis sizes starts =
-    band_end (c.args.retries + 1) axis c.args.place.array.info.now.layout.grid c.args.place.start c.run_from-region.result.lo c.run_from-region.result.hi (g.D.Depot.shown c.args.depot.now) (g.D.Depot.shown c.read_band-read.new.depot)
+    band_end (c.args.retries + 1) axis c.args.place.array.info.now.layout.grid c.args.place.start c.run_from-region.result.lo c.run_from-region.result.hi (g.D.PutStore.shown c.args.depot.now) (g.D.PutStore.shown c.read_band-read.new.depot)
     (step g (goal.at.returns-in-Err-clause-calls_end g c).After-row_of-row axis sizes starts) c.read_band-read.ensures.calls c.read_band-read.ensures.once
 
 pub returns-in-Err-read-clause-calls_end : goal.returns-in-Err-read-clause-calls_end
 returns-in-Err-read-clause-calls_end g c axis sizes starts =
-    band_end (c.args.retries + 1) axis c.args.place.array.info.now.layout.grid c.args.place.start c.run_from-region.result.lo c.run_from-region.result.hi (g.D.Depot.shown c.args.depot.now) (g.D.Depot.shown c.read_band-read.new.depot)
+    band_end (c.args.retries + 1) axis c.args.place.array.info.now.layout.grid c.args.place.start c.run_from-region.result.lo c.run_from-region.result.hi (g.D.PutStore.shown c.args.depot.now) (g.D.PutStore.shown c.read_band-read.new.depot)
     (step g (goal.at.returns-in-Err-read-clause-calls_end g c).After-row_of-row axis sizes starts) c.read_band-read.ensures.calls c.read_band-read.ensures.once

@@ -16,7 +16,7 @@ loop-coord-init g c =
     record {
       left = λ coord has. (c.cover-coord-items.ensures.exactly coord).0 (subst (λ (x : List (List ℕ)). Contains x coord) e has);
       order = subst (λ (x : List (List ℕ)). IsStrictlyIncreasing (map (place_of (counts_of c.args.info.now.layout.grid.shape c.args.info.now.layout.grid.chunk)) x)) (sym e) c.cover-coord-items.ensures.order;
-      step = stepped_same NoChange (g.D.Depot.shown c.args.depot.now);
+      step = stepped_same NoChange (g.D.PutStore.shown c.args.depot.now);
       read = λ entry step idx w steady. inl (subst (λ (x : List (List ℕ)). Contains x (quotients idx c.args.info.now.layout.grid.chunk)) (sym e)
           ((c.cover-coord-items.ensures.exactly (quotients idx c.args.info.now.layout.grid.chunk)).1
           (meets_own c.args.info.now c.args.region.now.lo c.args.region.now.hi idx c.cover-coord-items.ensures.kept c.requires.region w)));
@@ -39,8 +39,8 @@ loop-coord-preserved g c =
           (subst (λ (x : List (List ℕ)). IsStrictlyIncreasing (map (place_of (counts_of c.args.info.now.layout.grid.shape c.args.info.now.layout.grid.chunk)) x)) e c.loop-coord.invariant.order);
       step = stepped_then c.loop-coord.invariant.step c.read_part.ensures.step;
       read = reads_more c.args.info.now c.args.region.now c.in-Some.coord c.loop-coord.out c.read_part.new.out c.next.new.self
-          (g.D.Depot.shown c.args.depot.now) (g.D.Depot.shown c.loop-coord.depot) c.loop-coord.invariant.step c.in-Ok.ensures.part c.in-Ok.ensures.others
-          (subst (λ (x : List (List ℕ)). ReadsLeft c.args.info.now c.args.region.now (g.D.Depot.shown c.args.depot.now) x c.loop-coord.out) e c.loop-coord.invariant.read);
+          (g.D.PutStore.shown c.args.depot.now) (g.D.PutStore.shown c.loop-coord.depot) c.loop-coord.invariant.step c.in-Ok.ensures.part c.in-Ok.ensures.others
+          (subst (λ (x : List (List ℕ)). ReadsLeft c.args.info.now c.args.region.now (g.D.PutStore.shown c.args.depot.now) x c.loop-coord.out) e c.loop-coord.invariant.read);
       calls = let one = ap (λ xs. length xs * (c.args.retries + 1)) e in omega (arith, one, c.loop-coord.invariant.calls, c.read_part.ensures.calls, add-mul 1 (length c.next.new.self) (c.args.retries + 1), one-mul (c.args.retries + 1));
       once = let one = ap length e in omega (arith, one, c.loop-coord.invariant.once, c.read_part.ensures.once);
     }
@@ -48,8 +48,8 @@ loop-coord-preserved g c =
 pub returns-clause-all : goal.returns-clause-all
 returns-clause-all g c =
     let e : c.loop-coord.coord-iterator ≡ [] = c.in-None.ensures.steps.0 in
-    all_read c.args.info.now c.args.region.now (g.D.Depot.shown c.args.depot.now) _ c.loop-coord.out
-    (subst (λ (x : List (List ℕ)). ReadsLeft c.args.info.now c.args.region.now (g.D.Depot.shown c.args.depot.now) x c.loop-coord.out) e c.loop-coord.invariant.read)
+    all_read c.args.info.now c.args.region.now (g.D.PutStore.shown c.args.depot.now) _ c.loop-coord.out
+    (subst (λ (x : List (List ℕ)). ReadsLeft c.args.info.now c.args.region.now (g.D.PutStore.shown c.args.depot.now) x c.loop-coord.out) e c.loop-coord.invariant.read)
 
 pub ready_before-requires-clause-meets : goal.ready_before-requires-clause-meets
 ready_before-requires-clause-meets g c =
@@ -60,17 +60,17 @@ pub returns-in-Err-clause-front : goal.returns-in-Err-clause-front
 returns-in-Err-clause-front g c =
     let e : c.loop-coord.coord-iterator ≡ c.in-Some.coord ∷ c.next.new.self = c.in-Some.ensures.steps in
     let meets = c.loop-coord.invariant.left c.in-Some.coord (subst (λ (x : List (List ℕ)). Contains x c.in-Some.coord) (sym e) (first_contains c.in-Some.coord c.next.new.self)) in
-    let front = front_read c.args.info.now c.args.region.now c.in-Some.coord c.next.new.self (g.D.Depot.shown c.args.depot.now) c.loop-coord.out c.cover-coord-items.ensures.kept c.requires.region meets
+    let front = front_read c.args.info.now c.args.region.now c.in-Some.coord c.next.new.self (g.D.PutStore.shown c.args.depot.now) c.loop-coord.out c.cover-coord-items.ensures.kept c.requires.region meets
     (subst (λ (x : List (List ℕ)). IsStrictlyIncreasing (map (place_of (counts_of c.args.info.now.layout.grid.shape c.args.info.now.layout.grid.chunk)) x)) e c.loop-coord.invariant.order)
-    (subst (λ (x : List (List ℕ)). ReadsLeft c.args.info.now c.args.region.now (g.D.Depot.shown c.args.depot.now) x c.loop-coord.out) e c.loop-coord.invariant.read) in
-    subst (λ (out : List ℕ). HasFirst c.args.info.now c.args.region.now (g.D.Depot.shown c.args.depot.now) c.ready_before.result out) (sym c.in-Err.ensures.same)
-    (subst (λ (n : ℕ). HasFirst c.args.info.now c.args.region.now (g.D.Depot.shown c.args.depot.now) n c.loop-coord.out) (sym c.ready_before.ensures) front)
+    (subst (λ (x : List (List ℕ)). ReadsLeft c.args.info.now c.args.region.now (g.D.PutStore.shown c.args.depot.now) x c.loop-coord.out) e c.loop-coord.invariant.read) in
+    subst (λ (out : List ℕ). HasFirst c.args.info.now c.args.region.now (g.D.PutStore.shown c.args.depot.now) c.ready_before.result out) (sym c.in-Err.ensures.same)
+    (subst (λ (n : ℕ). HasFirst c.args.info.now c.args.region.now (g.D.PutStore.shown c.args.depot.now) n c.loop-coord.out) (sym c.ready_before.ensures) front)
 
 pub returns-in-Err-clause-unread : goal.returns-in-Err-clause-unread
 returns-in-Err-clause-unread g c =
     let e : c.loop-coord.coord-iterator ≡ c.in-Some.coord ∷ c.next.new.self = c.in-Some.ensures.steps in
     let meets = c.loop-coord.invariant.left c.in-Some.coord (subst (λ (x : List (List ℕ)). Contains x c.in-Some.coord) (sym e) (first_contains c.in-Some.coord c.next.new.self)) in
-    unread_of (c.args.retries + 1) (g.D.Depot.shown c.args.depot.now) (g.D.Depot.shown c.loop-coord.depot) (g.D.Depot.shown c.read_part.new.depot) c.args.info.now c.args.region.now c.in-Some.coord
+    unread_of (c.args.retries + 1) (g.D.PutStore.shown c.args.depot.now) (g.D.PutStore.shown c.loop-coord.depot) (g.D.PutStore.shown c.read_part.new.depot) c.args.info.now c.args.region.now c.in-Some.coord
     (record { ready = c.ready_before.result; status = c.in-Err.status }) c.cover-coord-items.ensures.kept meets c.loop-coord.invariant.step c.ready_before.ensures c.in-Err.ensures.cause
 
 pub returns-in-Err-clause-step : goal.returns-in-Err-clause-step

@@ -15,9 +15,9 @@ abbrev pub invariant-loop-coord : goal.invariant-loop-coord
 invariant-loop-coord g l = record {
   left : (coord : List ℕ) → Contains l.coord-iterator coord → Meets l.info.layout.grid l.region.lo l.region.hi coord;
   order : IsStrictlyIncreasing (map (place_of (counts_of l.info.layout.grid.shape l.info.layout.grid.chunk)) l.coord-iterator);
-  step : Stepped NoChange (g.D.Depot.shown l.initial.depot) (g.D.Depot.shown l.depot);
-  read : ReadsLeft l.info l.region (g.D.Depot.shown l.initial.depot) l.coord-iterator l.out;
-  calls : (g.D.Depot.shown l.depot).calls + length l.coord-iterator * (l.retries + 1) ≤ (g.D.Depot.shown l.initial.depot).calls + chunks_met l.info.layout.grid l.region.lo l.region.hi * (l.retries + 1);
-  once : Rose ((g.D.Depot.shown l.depot).calls + length l.coord-iterator - ((g.D.Depot.shown l.initial.depot).calls + chunks_met l.info.layout.grid l.region.lo l.region.hi))
-      (g.D.Depot.shown l.initial.depot).faults (g.D.Depot.shown l.depot).faults;
+  step : Stepped NoChange (g.D.PutStore.shown l.initial.depot) (g.D.PutStore.shown l.depot);
+  read : ReadsLeft l.info l.region (g.D.PutStore.shown l.initial.depot) l.coord-iterator l.out;
+  calls : (g.D.PutStore.shown l.depot).calls + length l.coord-iterator * (l.retries + 1) ≤ (g.D.PutStore.shown l.initial.depot).calls + chunks_met l.info.layout.grid l.region.lo l.region.hi * (l.retries + 1);
+  once : Rose ((g.D.PutStore.shown l.depot).calls + length l.coord-iterator - ((g.D.PutStore.shown l.initial.depot).calls + chunks_met l.info.layout.grid l.region.lo l.region.hi))
+      (g.D.PutStore.shown l.initial.depot).faults (g.D.PutStore.shown l.depot).faults;
 }

@@ -18,19 +18,19 @@ returns-in-Err-clause-calls g c = λ source next sink after. c.in-Err.ensures.un
 
 pub returns-in_default-clause-calls : goal.returns-in_default-clause-calls
 returns-in_default-clause-calls g c = λ source next sink after.
-    let run = case c.args.options.now c.args.text.now (scene source sink (g.D.Depot.shown c.args.depot.now)) (scene next after (g.D.Depot.shown c.prepare.new.depot)) in
+    let run = case c.args.options.now c.args.text.now (scene source sink (g.D.PutStore.shown c.args.depot.now)) (scene next after (g.D.PutStore.shown c.prepare.new.depot)) in
     begin_asked_within run c.in-Ok.prepared.job c.in-Ok.ensures.cleared.accepted c.in-Ok.ensures.cleared.planned way.NoMemory c.in-Ok.ensures.calls
 
 pub returns-in_default-begun_text-clause-calls : goal.returns-in_default-begun_text-clause-calls
 returns-in_default-begun_text-clause-calls g c = λ source next sink after.
-    let run = case c.args.options.now c.args.text.now (scene source sink (g.D.Depot.shown c.args.depot.now)) (scene next after (g.D.Depot.shown c.prepare.new.depot)) in
+    let run = case c.args.options.now c.args.text.now (scene source sink (g.D.PutStore.shown c.args.depot.now)) (scene next after (g.D.PutStore.shown c.prepare.new.depot)) in
     begin_asked_within run c.in-Ok.prepared.job c.in-Ok.ensures.cleared.accepted c.in-Ok.ensures.cleared.planned way.NoMemory c.in-Ok.ensures.calls
 
 pub returns-in-Err-store_ready-clause-answer : goal.returns-in-Err-store_ready-clause-answer
 returns-in-Err-store_ready-clause-answer g c = λ source next.
-    let start = g.D.Depot.shown c.args.depot.now in
-    let mid = g.D.Depot.shown c.prepare.new.depot in
-    let now = g.D.Depot.shown c.store_ready.new.depot in
+    let start = g.D.PutStore.shown c.args.depot.now in
+    let mid = g.D.PutStore.shown c.prepare.new.depot in
+    let now = g.D.PutStore.shown c.store_ready.new.depot in
     let options = c.args.options.now in
     let out = stream (g.W.Sink.written c.args.out.now) (g.W.Sink.faults c.args.out.now) in
     let cleared = subst (λ (j : Job). IsCleared options c.args.text.now start mid j) (sym c.in-Ok-make_ready.ensures.job) c.in-Ok.ensures.cleared in
@@ -38,9 +38,9 @@ returns-in-Err-store_ready-clause-answer g c = λ source next.
 
 pub returns-in-Err-store_ready-clause-calls : goal.returns-in-Err-store_ready-clause-calls
 returns-in-Err-store_ready-clause-calls g c = λ source next sink after.
-    let start = g.D.Depot.shown c.args.depot.now in
-    let mid = g.D.Depot.shown c.prepare.new.depot in
-    let now = g.D.Depot.shown c.store_ready.new.depot in
+    let start = g.D.PutStore.shown c.args.depot.now in
+    let mid = g.D.PutStore.shown c.prepare.new.depot in
+    let now = g.D.PutStore.shown c.store_ready.new.depot in
     let options = c.args.options.now in
     let job = c.in-Ok-make_ready.ready.job in
     let run = case options c.args.text.now (scene source sink start) (scene next after now) in
@@ -50,9 +50,9 @@ returns-in-Err-store_ready-clause-calls g c = λ source next sink after.
 
 pub returns-in-Ok-write_all-clause-answer : goal.returns-in-Ok-write_all-clause-answer
 returns-in-Ok-write_all-clause-answer g c = λ source next.
-    let start = g.D.Depot.shown c.args.depot.now in
-    let mid = g.D.Depot.shown c.prepare.new.depot in
-    let now = g.D.Depot.shown c.store_ready.new.depot in
+    let start = g.D.PutStore.shown c.args.depot.now in
+    let mid = g.D.PutStore.shown c.prepare.new.depot in
+    let now = g.D.PutStore.shown c.store_ready.new.depot in
     let options = c.args.options.now in
     let out = stream (g.W.Sink.written c.args.out.now) (g.W.Sink.faults c.args.out.now) in
     let after = stream (g.W.Sink.written c.write_all.new.out) (g.W.Sink.faults c.write_all.new.out) in
@@ -63,9 +63,9 @@ returns-in-Ok-write_all-clause-answer g c = λ source next.
 
 pub returns-clause-answer : goal.returns-clause-answer
 returns-clause-answer g c = λ source next.
-    let start = g.D.Depot.shown c.args.depot.now in
-    let mid = g.D.Depot.shown c.prepare.new.depot in
-    let now = g.D.Depot.shown c.store_ready.new.depot in
+    let start = g.D.PutStore.shown c.args.depot.now in
+    let mid = g.D.PutStore.shown c.prepare.new.depot in
+    let now = g.D.PutStore.shown c.store_ready.new.depot in
     let options = c.args.options.now in
     let out = stream (g.W.Sink.written c.args.out.now) (g.W.Sink.faults c.args.out.now) in
     let after = stream (g.W.Sink.written c.write_all.new.out) (g.W.Sink.faults c.write_all.new.out) in
@@ -77,9 +77,9 @@ returns-clause-answer g c = λ source next.
 
 pub returns-in-Ok-write_all-clause-calls : goal.returns-in-Ok-write_all-clause-calls
 returns-in-Ok-write_all-clause-calls g c = λ source next sink after.
-    let start = g.D.Depot.shown c.args.depot.now in
-    let mid = g.D.Depot.shown c.prepare.new.depot in
-    let now = g.D.Depot.shown c.store_ready.new.depot in
+    let start = g.D.PutStore.shown c.args.depot.now in
+    let mid = g.D.PutStore.shown c.prepare.new.depot in
+    let now = g.D.PutStore.shown c.store_ready.new.depot in
     let options = c.args.options.now in
     let job = c.in-Ok-make_ready.ready.job in
     let run = case options c.args.text.now (scene source sink start) (scene next after now) in
@@ -89,9 +89,9 @@ returns-in-Ok-write_all-clause-calls g c = λ source next sink after.
 
 pub returns-clause-calls : goal.returns-clause-calls
 returns-clause-calls g c = λ source next sink after.
-    let start = g.D.Depot.shown c.args.depot.now in
-    let mid = g.D.Depot.shown c.prepare.new.depot in
-    let now = g.D.Depot.shown c.store_ready.new.depot in
+    let start = g.D.PutStore.shown c.args.depot.now in
+    let mid = g.D.PutStore.shown c.prepare.new.depot in
+    let now = g.D.PutStore.shown c.store_ready.new.depot in
     let options = c.args.options.now in
     let job = c.in-Ok-make_ready.ready.job in
     let run = case options c.args.text.now (scene source sink start) (scene next after now) in

@@ -12,8 +12,8 @@ use Rattle.cu_top.proofs.begin.store_ready.Goals as goal
 
 pub returns-in-Ok-clause-ended : goal.returns-in-Ok-clause-ended
 returns-in-Ok-clause-ended g c = λ text old source next sink after cleared.
-    let start = g.D.Depot.shown c.args.depot.now in
-    let now = g.D.Depot.shown c.store_texts.new.depot in
+    let start = g.D.PutStore.shown c.args.depot.now in
+    let now = g.D.PutStore.shown c.store_texts.new.depot in
     let options = c.args.options.now in
     let ready = c.args.ready.now in
     let job = ready.job in
@@ -38,8 +38,8 @@ returns-in-Ok-clause-ended g c = λ text old source next sink after cleared.
 
 pub returns-in-Err-clause-ended : goal.returns-in-Err-clause-ended
 returns-in-Err-clause-ended g c = λ text old source next sink after cleared.
-    let start = g.D.Depot.shown c.args.depot.now in
-    let now = g.D.Depot.shown c.store_texts.new.depot in
+    let start = g.D.PutStore.shown c.args.depot.now in
+    let now = g.D.PutStore.shown c.store_texts.new.depot in
     let options = c.args.options.now in
     let ready = c.args.ready.now in
     let job = ready.job in

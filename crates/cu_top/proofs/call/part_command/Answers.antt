@@ -6,7 +6,7 @@ use Rattle.cu_top.proofs.call.part_command.Goals as goal
 
 pub store_part-requires-clause-left : goal.store_part-requires-clause-left
 store_part-requires-clause-left g c =
-    subst (λ (text : List ℕ). IsLeftEntry c.args.options.now text (g.D.Depot.shown c.args.depot.now)) (sym c.deref.ensures.value)
+    subst (λ (text : List ℕ). IsLeftEntry c.args.options.now text (g.D.PutStore.shown c.args.depot.now)) (sym c.deref.ensures.value)
     (c.requires.left c.in-Ok.text.items (g.R.Source.left c.read_all.new.src) c.in-Ok.ensures.text)
 
 pub returns-in-Ok : goal.returns-in-Ok

@@ -20,15 +20,15 @@ use Rattle.cu_top.proofs.demo.demo.Goals as goal
 
 pub returns-in-Err : goal.returns-in-Err
 returns-in-Err g c = record {
-  answer = refused_plan _ c.args.options.now c.args.size (seen (stream (g.W.Sink.written c.args.out.now) (g.W.Sink.faults c.args.out.now)) (g.D.Depot.shown c.args.depot.now)) c.in-Err.status c.in-Err.ensures.refused;
-  calls = demo_unplanned (demo_case c.args.options.now c.args.size (seen (stream (g.W.Sink.written c.args.out.now) (g.W.Sink.faults c.args.out.now)) (g.D.Depot.shown c.args.depot.now))
-      (seen (stream (g.W.Sink.written c.args.out.now) (g.W.Sink.faults c.args.out.now)) (g.D.Depot.shown c.args.depot.now))) c.in-Err.status c.in-Err.ensures.refused (omega arith);
+  answer = refused_plan _ c.args.options.now c.args.size (seen (stream (g.W.Sink.written c.args.out.now) (g.W.Sink.faults c.args.out.now)) (g.D.PutStore.shown c.args.depot.now)) c.in-Err.status c.in-Err.ensures.refused;
+  calls = demo_unplanned (demo_case c.args.options.now c.args.size (seen (stream (g.W.Sink.written c.args.out.now) (g.W.Sink.faults c.args.out.now)) (g.D.PutStore.shown c.args.depot.now))
+      (seen (stream (g.W.Sink.written c.args.out.now) (g.W.Sink.faults c.args.out.now)) (g.D.PutStore.shown c.args.depot.now))) c.in-Err.status c.in-Err.ensures.refused (omega arith);
 }
 
 pub returns-in-Err-ask_demo : goal.returns-in-Err-ask_demo
 returns-in-Err-ask_demo g c =
     let out = stream (g.W.Sink.written c.args.out.now) (g.W.Sink.faults c.args.out.now) in
-    let told = demo_case c.args.options.now c.args.size (seen out (g.D.Depot.shown c.args.depot.now)) (seen out (g.D.Depot.shown c.ask_demo.new.depot)) in
+    let told = demo_case c.args.options.now c.args.size (seen out (g.D.PutStore.shown c.args.depot.now)) (seen out (g.D.PutStore.shown c.ask_demo.new.depot)) in
     record {
       answer = asked _ told c.in-Ok.prepared.job c.in-Err-ask_demo.status c.in-Ok.ensures.job (c.ask_demo.ensures.step, refl)
           (c.in-Err-ask_demo.ensures.refused c.args.options.now c.in-Ok.ensures.plan);
@@ -39,8 +39,8 @@ returns-in-Err-ask_demo g c =
 pub returns-in-Err-store_inputs : goal.returns-in-Err-store_inputs
 returns-in-Err-store_inputs g c =
     let out = stream (g.W.Sink.written c.args.out.now) (g.W.Sink.faults c.args.out.now) in
-    let mid = g.D.Depot.shown c.ask_demo.new.depot in
-    let told = demo_case c.args.options.now c.args.size (seen out (g.D.Depot.shown c.args.depot.now)) (seen out (g.D.Depot.shown c.store_inputs.new.depot)) in
+    let mid = g.D.PutStore.shown c.ask_demo.new.depot in
+    let told = demo_case c.args.options.now c.args.size (seen out (g.D.PutStore.shown c.args.depot.now)) (seen out (g.D.PutStore.shown c.store_inputs.new.depot)) in
     record {
       answer = unstored _ told mid c.in-Err-store_inputs.status refl c.in_default.ensures.inputs c.ask_demo.ensures.step.step.count
           (stepped_then (stepped_none c.ask_demo.ensures.step) c.store_inputs.ensures.step) c.in-Err-store_inputs.ensures.refused;
@@ -56,9 +56,9 @@ store_plan-requires-clause-quiet g c κs within =
     let options = c.args.options.now in
     let job = c.in-Ok-make_ready.ready.job in
     let same : job ≡ c.in-Ok.prepared.job = c.in-Ok-make_ready.ensures.job in
-    let old = g.D.Depot.shown c.args.depot.now in
-    let mid = g.D.Depot.shown c.ask_demo.new.depot in
-    let start = g.D.Depot.shown c.store_inputs.new.depot in
+    let old = g.D.PutStore.shown c.args.depot.now in
+    let mid = g.D.PutStore.shown c.ask_demo.new.depot in
+    let start = g.D.PutStore.shown c.store_inputs.new.depot in
     let way : Way options c.args.size job old mid start = record {
       some = c.requires.some;
       few = c.requires.few;
@@ -86,14 +86,14 @@ returns-in-Ok-store_plan g c =
     let n = c.args.size in
     let job = c.in-Ok-make_ready.ready.job in
     let same : job ≡ c.in-Ok.prepared.job = c.in-Ok-make_ready.ensures.job in
-    let old = g.D.Depot.shown c.args.depot.now in
-    let mid = g.D.Depot.shown c.ask_demo.new.depot in
-    let start = g.D.Depot.shown c.store_inputs.new.depot in
-    let ran = g.D.Depot.shown c.store_plan.new.depot in
-    let now = g.D.Depot.shown c.tell_result.new.depot in
+    let old = g.D.PutStore.shown c.args.depot.now in
+    let mid = g.D.PutStore.shown c.ask_demo.new.depot in
+    let start = g.D.PutStore.shown c.store_inputs.new.depot in
+    let ran = g.D.PutStore.shown c.store_plan.new.depot in
+    let now = g.D.PutStore.shown c.tell_result.new.depot in
     let before = stream (g.W.Sink.written c.args.out.now) (g.W.Sink.faults c.args.out.now) in
     let after = stream (g.W.Sink.written c.tell_result.new.out) (g.W.Sink.faults c.tell_result.new.out) in
-    let lack = g.D.Share.yards_lack c.tell_result.new.depot in
+    let lack = g.D.SharedStore.yards_lack c.tell_result.new.depot in
     let counts = c.in-Ok-store_plan.counts in
     let way : Way options n job old mid start = record {
       some = c.requires.some;
@@ -149,12 +149,12 @@ returns g c =
     let n = c.args.size in
     let job = c.in-Ok-make_ready.ready.job in
     let same : job ≡ c.in-Ok.prepared.job = c.in-Ok-make_ready.ensures.job in
-    let old = g.D.Depot.shown c.args.depot.now in
-    let mid = g.D.Depot.shown c.ask_demo.new.depot in
-    let start = g.D.Depot.shown c.store_inputs.new.depot in
-    let now = g.D.Depot.shown c.store_plan.new.depot in
+    let old = g.D.PutStore.shown c.args.depot.now in
+    let mid = g.D.PutStore.shown c.ask_demo.new.depot in
+    let start = g.D.PutStore.shown c.store_inputs.new.depot in
+    let now = g.D.PutStore.shown c.store_plan.new.depot in
     let out = stream (g.W.Sink.written c.args.out.now) (g.W.Sink.faults c.args.out.now) in
-    let lack = g.D.Share.yards_lack c.store_plan.new.depot in
+    let lack = g.D.SharedStore.yards_lack c.store_plan.new.depot in
     let way : Way options n job old mid start = record {
       some = c.requires.some;
       few = c.requires.few;
@@ -194,5 +194,5 @@ returns g c =
 pub returns-in_default-make_ready-clause-calls : goal.returns-in_default-make_ready-clause-calls
 returns-in_default-make_ready-clause-calls g c =
     let out = stream (g.W.Sink.written c.args.out.now) (g.W.Sink.faults c.args.out.now) in
-    let told = demo_case c.args.options.now c.args.size (seen out (g.D.Depot.shown c.args.depot.now)) (seen out (g.D.Depot.shown c.ask_demo.new.depot)) in
+    let told = demo_case c.args.options.now c.args.size (seen out (g.D.PutStore.shown c.args.depot.now)) (seen out (g.D.PutStore.shown c.ask_demo.new.depot)) in
     demo_unready told c.in-Ok.prepared.job c.in-Ok.ensures.job (c.ask_demo.ensures.calls c.args.options.now c.in-Ok.ensures.plan)

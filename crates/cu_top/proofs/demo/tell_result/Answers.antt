@@ -12,7 +12,7 @@ use Rattle.cu_top.proofs.demo.tell_result.Goals as goal
 pub returns-in-Err-clause-answer : goal.returns-in-Err-clause-answer
 returns-in-Err-clause-answer g c =
     unread_end (c.args.retries + 1) (λ (x : ℤ). result_line c.args.size x ++ report_line c.args.plan.now c.args.counts.now)
-    (stream (g.W.Sink.written c.args.out.now) (g.W.Sink.faults c.args.out.now)) (g.D.Depot.shown c.args.depot.now) (g.D.Depot.shown c.read_result.new.depot) c.in-Err.status c.in-Err.ensures.refused
+    (stream (g.W.Sink.written c.args.out.now) (g.W.Sink.faults c.args.out.now)) (g.D.PutStore.shown c.args.depot.now) (g.D.PutStore.shown c.read_result.new.depot) c.in-Err.status c.in-Err.ensures.refused
 
 pub returns-in-Ok-report-clause-answer : goal.returns-in-Ok-report-clause-answer
 returns-in-Ok-report-clause-answer g c =

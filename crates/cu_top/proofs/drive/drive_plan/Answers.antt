@@ -37,7 +37,7 @@ run_plan-ended-requires-clause-open g c κs within =
     let texts : Texts = record { record_key = c.text_keys-keys.result.record; «record» = c.deref.result; metadata_key = c.text_keys-keys.result.metadata; metadata = c.deref-2.result } in
     let same = same_run options job c.args.ready.now.plan texts c.requires.ready.plan_is c.text_keys-keys.ensures.record (rw c.deref.ensures.value c.requires.ready.record_is) c.text_keys-keys.ensures.metadata
     (rw c.deref-2.ensures.value c.requires.ready.metadata_is) in
-    subst (λ (r : PlanRun). IsOpen r (g.D.Depot.shown c.args.depot.now)) (sym same) c.requires.open
+    subst (λ (r : PlanRun). IsOpen r (g.D.PutStore.shown c.args.depot.now)) (sym same) c.requires.open
 
 pub run_plan-ended-requires-clause-held : goal.run_plan-ended-requires-clause-held
 run_plan-ended-requires-clause-held g c κs within =
@@ -46,11 +46,11 @@ run_plan-ended-requires-clause-held g c κs within =
     let texts : Texts = record { record_key = c.text_keys-keys.result.record; «record» = c.deref.result; metadata_key = c.text_keys-keys.result.metadata; metadata = c.deref-2.result } in
     let same = same_run options job c.args.ready.now.plan texts c.requires.ready.plan_is c.text_keys-keys.ensures.record (rw c.deref.ensures.value c.requires.ready.record_is) c.text_keys-keys.ensures.metadata
     (rw c.deref-2.ensures.value c.requires.ready.metadata_is) in
-    texts_held c.args.held c.args.ready.now.plan texts (g.D.Depot.shown c.args.depot.now).held (subst (λ (r : PlanRun). AreHeld c.args.held r (g.D.Depot.shown c.args.depot.now).held) (sym same) c.requires.held)
+    texts_held c.args.held c.args.ready.now.plan texts (g.D.PutStore.shown c.args.depot.now).held (subst (λ (r : PlanRun). AreHeld c.args.held r (g.D.PutStore.shown c.args.depot.now).held) (sym same) c.requires.held)
 
 pub drive_answer-requires : goal.drive_answer-requires
 drive_answer-requires g c =
-    of_ops c.broken_law.ensures.task c.args.ready.now.plan c.args.memory.table (g.D.Depot.shown c.args.depot.now) (g.D.Depot.shown c.run_plan-ended.new.depot) c.run_plan-ended.result
+    of_ops c.broken_law.ensures.task c.args.ready.now.plan c.args.memory.table (g.D.PutStore.shown c.args.depot.now) (g.D.PutStore.shown c.run_plan-ended.new.depot) c.run_plan-ended.result
     (ap (λ (t : TableView). t.settings.plan) c.requires.memory.table ∙ sym c.requires.ready.plan_is) c.run_plan-ended.ensures.driven
 
 pub returns-clause-driven : goal.returns-clause-driven
@@ -63,8 +63,8 @@ returns-clause-driven g c =
     let p = c.args.ready.now.plan in
     let done = c.args.memory.table.done in
     let how = c.run_options-how.result in
-    let lack = g.D.Share.yards_lack c.run_plan-ended.new.depot in
-    let shown : Shown × Shown = (g.D.Depot.shown c.args.depot.now, g.D.Depot.shown c.run_plan-ended.new.depot) in
+    let lack = g.D.SharedStore.yards_lack c.run_plan-ended.new.depot in
+    let shown : Shown × Shown = (g.D.PutStore.shown c.args.depot.now, g.D.PutStore.shown c.run_plan-ended.new.depot) in
     let result = c.run_plan-ended.result in
     let driven = drive_case options (work_run p texts) c.args.held done lack shown in
     let opened : c.args.memory.table ≡ opened_table p (run_options options) done =
@@ -96,8 +96,8 @@ returns-clause-calls g c =
     let o = c.args.options.now in
     let job = c.args.ready.now.job in
     let p = c.args.ready.now.plan in
-    let old = g.D.Depot.shown c.args.depot.now in
-    let new = g.D.Depot.shown c.run_plan-ended.new.depot in
+    let old = g.D.PutStore.shown c.args.depot.now in
+    let new = g.D.PutStore.shown c.run_plan-ended.new.depot in
     let made : RunMakes c.run_options-how.result p c.args.held old new c.run_plan-ended.result = record { begun = c.run_plan-ended.ensures.begun; all = c.run_plan-ended.ensures.calls; starts = c.run_plan-ended.ensures.tries } in
     any_ok c.drive_answer.result _ (drive_all o job c.args.held old new c.run_options-how.result p c.run_plan-ended.result c.run_options-how.ensures c.requires.ready.plan_is made)
 
@@ -106,8 +106,8 @@ returns-clause-stopped_calls g c =
     let o = c.args.options.now in
     let job = c.args.ready.now.job in
     let p = c.args.ready.now.plan in
-    let old = g.D.Depot.shown c.args.depot.now in
-    let new = g.D.Depot.shown c.run_plan-ended.new.depot in
+    let old = g.D.PutStore.shown c.args.depot.now in
+    let new = g.D.PutStore.shown c.run_plan-ended.new.depot in
     let made : RunMakes c.run_options-how.result p c.args.held old new c.run_plan-ended.result = record { begun = c.run_plan-ended.ensures.begun; all = c.run_plan-ended.ensures.calls; starts = c.run_plan-ended.ensures.tries } in
     drive_stopped o job c.args.held old new c.run_options-how.result p _ c.run_plan-ended.result c.drive_answer.result c.run_options-how.ensures c.requires.ready.plan_is c.drive_answer.ensures made
 
@@ -116,7 +116,7 @@ returns-clause-starts g c =
     let o = c.args.options.now in
     let job = c.args.ready.now.job in
     let p = c.args.ready.now.plan in
-    let old = g.D.Depot.shown c.args.depot.now in
-    let new = g.D.Depot.shown c.run_plan-ended.new.depot in
+    let old = g.D.PutStore.shown c.args.depot.now in
+    let new = g.D.PutStore.shown c.run_plan-ended.new.depot in
     let made : RunMakes c.run_options-how.result p c.args.held old new c.run_plan-ended.result = record { begun = c.run_plan-ended.ensures.begun; all = c.run_plan-ended.ensures.calls; starts = c.run_plan-ended.ensures.tries } in
     drive_starts o job c.args.held old new c.run_options-how.result p _ c.run_plan-ended.result c.drive_answer.result c.run_options-how.ensures c.requires.ready.plan_is c.drive_answer.ensures made

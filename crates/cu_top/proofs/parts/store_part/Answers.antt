@@ -19,19 +19,19 @@ use Rattle.cu_top.proofs.parts.store_part.Goals as goal
 pub returns-in-Err-clause-answer : goal.returns-in-Err-clause-answer
 returns-in-Err-clause-answer g c = λ source next.
     let out = stream (g.W.Sink.written c.args.out.now) (g.W.Sink.faults c.args.out.now) in
-    not_parted (case c.args.options.now c.args.text.now (scene source out (g.D.Depot.shown c.args.depot.now)) (scene next out (g.D.Depot.shown c.reopen.new.depot)))
+    not_parted (case c.args.options.now c.args.text.now (scene source out (g.D.PutStore.shown c.args.depot.now)) (scene next out (g.D.PutStore.shown c.reopen.new.depot)))
     (part_numbers c.args.numbers.now) c.in-Err.status (c.in-Err.ensures.refused source next out out)
 
 pub returns-in-Err-clause-calls : goal.returns-in-Err-clause-calls
 returns-in-Err-clause-calls g c = λ source next sink after.
-    not_parted_within (case c.args.options.now c.args.text.now (scene source sink (g.D.Depot.shown c.args.depot.now)) (scene next after (g.D.Depot.shown c.reopen.new.depot)))
+    not_parted_within (case c.args.options.now c.args.text.now (scene source sink (g.D.PutStore.shown c.args.depot.now)) (scene next after (g.D.PutStore.shown c.reopen.new.depot)))
     (part_numbers c.args.numbers.now) c.in-Err.status (c.in-Err.ensures.refused_calls source next sink after)
 
 pub returns-in_default-clause-answer : goal.returns-in_default-clause-answer
 returns-in_default-clause-answer g c = λ source next.
-    let begin = g.D.Depot.shown c.args.depot.now in
-    let start = g.D.Depot.shown c.reopen.new.depot in
-    let now = g.D.Depot.shown c.reopen.new.depot in
+    let begin = g.D.PutStore.shown c.args.depot.now in
+    let start = g.D.PutStore.shown c.reopen.new.depot in
+    let now = g.D.PutStore.shown c.reopen.new.depot in
     let options = c.args.options.now in
     let out = stream (g.W.Sink.written c.args.out.now) (g.W.Sink.faults c.args.out.now) in
     let after = out in
@@ -59,9 +59,9 @@ returns-in_default-clause-answer g c = λ source next.
 
 pub returns-in_default-clause-calls : goal.returns-in_default-clause-calls
 returns-in_default-clause-calls g c = λ source next sink after.
-    let begin = g.D.Depot.shown c.args.depot.now in
-    let start = g.D.Depot.shown c.reopen.new.depot in
-    let now = g.D.Depot.shown c.reopen.new.depot in
+    let begin = g.D.PutStore.shown c.args.depot.now in
+    let start = g.D.PutStore.shown c.reopen.new.depot in
+    let now = g.D.PutStore.shown c.reopen.new.depot in
     let options = c.args.options.now in
     let run = case options c.args.text.now (scene source sink begin) (scene next after now) in
     let given = part_numbers c.args.numbers.now in
@@ -83,9 +83,9 @@ returns-in_default-clause-calls g c = λ source next sink after.
 
 pub returns-in-Ok-report_part-clause-answer : goal.returns-in-Ok-report_part-clause-answer
 returns-in-Ok-report_part-clause-answer g c = λ source next.
-    let begin = g.D.Depot.shown c.args.depot.now in
-    let start = g.D.Depot.shown c.reopen.new.depot in
-    let now = g.D.Depot.shown c.run_part.new.depot in
+    let begin = g.D.PutStore.shown c.args.depot.now in
+    let start = g.D.PutStore.shown c.reopen.new.depot in
+    let now = g.D.PutStore.shown c.run_part.new.depot in
     let options = c.args.options.now in
     let out = stream (g.W.Sink.written c.args.out.now) (g.W.Sink.faults c.args.out.now) in
     let after = stream (g.W.Sink.written c.report_part.new.out) (g.W.Sink.faults c.report_part.new.out) in
@@ -121,9 +121,9 @@ returns-in-Ok-report_part-clause-answer g c = λ source next.
 
 pub returns-in-Ok-run_part-clause-answer : goal.returns-in-Ok-run_part-clause-answer
 returns-in-Ok-run_part-clause-answer g c = λ source next.
-    let begin = g.D.Depot.shown c.args.depot.now in
-    let start = g.D.Depot.shown c.reopen.new.depot in
-    let now = g.D.Depot.shown c.run_part.new.depot in
+    let begin = g.D.PutStore.shown c.args.depot.now in
+    let start = g.D.PutStore.shown c.reopen.new.depot in
+    let now = g.D.PutStore.shown c.run_part.new.depot in
     let options = c.args.options.now in
     let out = stream (g.W.Sink.written c.args.out.now) (g.W.Sink.faults c.args.out.now) in
     let after = stream (g.W.Sink.written c.report_part.new.out) (g.W.Sink.faults c.report_part.new.out) in
@@ -159,9 +159,9 @@ returns-in-Ok-run_part-clause-answer g c = λ source next.
 
 pub returns-clause-answer : goal.returns-clause-answer
 returns-clause-answer g c = λ source next.
-    let begin = g.D.Depot.shown c.args.depot.now in
-    let start = g.D.Depot.shown c.reopen.new.depot in
-    let now = g.D.Depot.shown c.run_part.new.depot in
+    let begin = g.D.PutStore.shown c.args.depot.now in
+    let start = g.D.PutStore.shown c.reopen.new.depot in
+    let now = g.D.PutStore.shown c.run_part.new.depot in
     let options = c.args.options.now in
     let out = stream (g.W.Sink.written c.args.out.now) (g.W.Sink.faults c.args.out.now) in
     let after = out in
@@ -196,9 +196,9 @@ returns-clause-answer g c = λ source next.
 
 pub returns-in-Ok-report_part-clause-calls : goal.returns-in-Ok-report_part-clause-calls
 returns-in-Ok-report_part-clause-calls g c = λ source next sink after.
-    let begin = g.D.Depot.shown c.args.depot.now in
-    let start = g.D.Depot.shown c.reopen.new.depot in
-    let now = g.D.Depot.shown c.run_part.new.depot in
+    let begin = g.D.PutStore.shown c.args.depot.now in
+    let start = g.D.PutStore.shown c.reopen.new.depot in
+    let now = g.D.PutStore.shown c.run_part.new.depot in
     let options = c.args.options.now in
     let run = case options c.args.text.now (scene source sink begin) (scene next after now) in
     let given = part_numbers c.args.numbers.now in
@@ -229,9 +229,9 @@ returns-in-Ok-report_part-clause-calls g c = λ source next sink after.
 
 pub returns-in-Ok-run_part-clause-calls : goal.returns-in-Ok-run_part-clause-calls
 returns-in-Ok-run_part-clause-calls g c = λ source next sink after.
-    let begin = g.D.Depot.shown c.args.depot.now in
-    let start = g.D.Depot.shown c.reopen.new.depot in
-    let now = g.D.Depot.shown c.run_part.new.depot in
+    let begin = g.D.PutStore.shown c.args.depot.now in
+    let start = g.D.PutStore.shown c.reopen.new.depot in
+    let now = g.D.PutStore.shown c.run_part.new.depot in
     let options = c.args.options.now in
     let run = case options c.args.text.now (scene source sink begin) (scene next after now) in
     let given = part_numbers c.args.numbers.now in
@@ -262,9 +262,9 @@ returns-in-Ok-run_part-clause-calls g c = λ source next sink after.
 
 pub returns-clause-calls : goal.returns-clause-calls
 returns-clause-calls g c = λ source next sink after.
-    let begin = g.D.Depot.shown c.args.depot.now in
-    let start = g.D.Depot.shown c.reopen.new.depot in
-    let now = g.D.Depot.shown c.run_part.new.depot in
+    let begin = g.D.PutStore.shown c.args.depot.now in
+    let start = g.D.PutStore.shown c.reopen.new.depot in
+    let now = g.D.PutStore.shown c.run_part.new.depot in
     let options = c.args.options.now in
     let run = case options c.args.text.now (scene source sink begin) (scene next after now) in
     let given = part_numbers c.args.numbers.now in

@@ -10,16 +10,16 @@ use Rattle.cu_top.proofs.prepare.plan_job.Goals as goal
 
 pub plan-requires-clause-layouts : goal.plan-requires-clause-layouts
 plan-requires-clause-layouts g c =
-    subst (All (λ (i : InputInfo). IsLayout i.layout)) (sym c.deref.ensures.value) (read_layouts (g.D.Depot.shown c.args.depot.now) c.in-Ok.job.inputs.items c.in-Ok.ensures.job.inputs)
+    subst (All (λ (i : InputInfo). IsLayout i.layout)) (sym c.deref.ensures.value) (read_layouts (g.D.PutStore.shown c.args.depot.now) c.in-Ok.job.inputs.items c.in-Ok.ensures.job.inputs)
 
 pub returns-in-Err-clause-refused : goal.returns-in-Err-clause-refused
 returns-in-Err-clause-refused g c = λ source next sink after.
-    let run = case c.args.options.now c.args.text.now (scene source sink (g.D.Depot.shown c.args.depot.now)) (scene next after (g.D.Depot.shown c.read_job.new.depot)) in
+    let run = case c.args.options.now c.args.text.now (scene source sink (g.D.PutStore.shown c.args.depot.now)) (scene next after (g.D.PutStore.shown c.read_job.new.depot)) in
     subst (IsPlanRefused run) (sym c.from.ensures) (job_refused run c.in-Err.fault (stepped c.read_job.ensures.step) c.in-Err.ensures.cause)
 
 pub returns-in-Err-plan-clause-refused : goal.returns-in-Err-plan-clause-refused
 returns-in-Err-plan-clause-refused g c = λ source next sink after.
-    let run = case c.args.options.now c.args.text.now (scene source sink (g.D.Depot.shown c.args.depot.now)) (scene next after (g.D.Depot.shown c.read_job.new.depot)) in
+    let run = case c.args.options.now c.args.text.now (scene source sink (g.D.PutStore.shown c.args.depot.now)) (scene next after (g.D.PutStore.shown c.read_job.new.depot)) in
     subst (IsPlanRefused run) (sym c.unplanned_status.ensures) (plan_refused run c.in-Ok.job c.in-Err-plan.fault (stepped c.read_job.ensures.step) c.in-Ok.ensures.job c.in-Err-plan.ensures.refused)
 
 pub returns-in-Err-clause-step : goal.returns-in-Err-clause-step

@@ -18,7 +18,7 @@ returns-in-Err-clause-step g c = stepped c.ask_key.ensures.step
 
 pub returns-in-Err-clause-fault : goal.returns-in-Err-clause-fault
 returns-in-Err-clause-fault g c =
-    ask_refused (c.args.options.now.retries + 1) (keys_of c.args.options.now c.args.ready.now.job) (g.D.Depot.shown c.args.depot.now) (g.D.Depot.shown c.ask_key.new.depot) c.text_keys-key.result.metadata c.in-Err.status
+    ask_refused (c.args.options.now.retries + 1) (keys_of c.args.options.now c.args.ready.now.job) (g.D.PutStore.shown c.args.depot.now) (g.D.PutStore.shown c.ask_key.new.depot) c.text_keys-key.result.metadata c.in-Err.status
     c.in-Err.ensures.cause (metadata_listed c.args.options.now c.args.ready.now.job c.text_keys-key.result.metadata c.text_keys-key.ensures.metadata)
 
 pub returns-in-Err-find_done-clause-step : goal.returns-in-Err-find_done-clause-step
@@ -28,9 +28,9 @@ pub returns-in-Err-find_done-clause-fault : goal.returns-in-Err-find_done-clause
 returns-in-Err-find_done-clause-fault g c =
     let options = c.args.options.now in
     let job = c.args.ready.now.job in
-    let old = g.D.Depot.shown c.args.depot.now in
-    let between = g.D.Depot.shown c.ask_key.new.depot in
-    let new = g.D.Depot.shown c.find_done.new.depot in
+    let old = g.D.PutStore.shown c.args.depot.now in
+    let between = g.D.PutStore.shown c.ask_key.new.depot in
+    let new = g.D.PutStore.shown c.find_done.new.depot in
     subst (λ (s : Status). IsRestFault (options.retries + 1) (keys_of options job) (old, new) s) (sym c.find_answer.ensures)
     (find_refused (options.retries + 1) (plan_keys c.args.ready.now.plan (length c.args.ready.now.plan.ops)) (keys_of options job) old between new c.in-Err-find_done.fault (stepped c.ask_key.ensures.step)
     c.in-Err-find_done.ensures.cause (chunk_listed options job c.args.ready.now.plan c.requires.ready.plan_is))
@@ -39,9 +39,9 @@ pub returns-in-Ok-make-clause-texts : goal.returns-in-Ok-make-clause-texts
 returns-in-Ok-make-clause-texts g c =
     let options = c.args.options.now in
     let job = c.args.ready.now.job in
-    let old = g.D.Depot.shown c.args.depot.now in
-    let between = g.D.Depot.shown c.ask_key.new.depot in
-    let new = g.D.Depot.shown c.find_done.new.depot in
+    let old = g.D.PutStore.shown c.args.depot.now in
+    let between = g.D.PutStore.shown c.ask_key.new.depot in
+    let new = g.D.PutStore.shown c.find_done.new.depot in
     elim c.if-ask_key.branch [
       | in-Ok-true w ↦ texts_both options job old between new (stepped c.ask_key.ensures.step) (stepped c.find_done.ensures.step) c.requires.known c.if-ask_key.held c.text_keys-key.result.metadata w.held-is c.text_keys-key.ensures.metadata (search rules)
       | in-Ok-false w ↦ texts_record options job old between new (stepped c.ask_key.ensures.step) (stepped c.find_done.ensures.step) c.requires.known c.if-ask_key.held w.held-is
@@ -58,7 +58,7 @@ returns-in-Ok-make-clause-named g c = λ held told.
     let done = ap (λ (t : TableView). t.done) c.in-Ok-make.ensures.memory.table ∙ c.deref.ensures.value in
     subst (λ (d : List Bool). NamesStored (job_plan c.args.options.now c.args.ready.now.job) held d) (sym done)
     (subst (λ (p : PlanView). NamesStored p held c.in-Ok.done.items) c.requires.ready.plan_is
-    (names_later c.args.ready.now.plan (g.D.Depot.shown c.args.depot.now) (g.D.Depot.shown c.ask_key.new.depot) c.in-Ok.done.items (stepped c.ask_key.ensures.step) (λ now is. c.in-Ok.ensures.all now is) held told))
+    (names_later c.args.ready.now.plan (g.D.PutStore.shown c.args.depot.now) (g.D.PutStore.shown c.ask_key.new.depot) c.in-Ok.done.items (stepped c.ask_key.ensures.step) (λ now is. c.in-Ok.ensures.all now is) held told))
 
 pub returns-in-Ok-make-clause-step : goal.returns-in-Ok-make-clause-step
 returns-in-Ok-make-clause-step g c = stepped_then (stepped c.ask_key.ensures.step) (stepped c.find_done.ensures.step)
@@ -68,19 +68,19 @@ returns-clause-step g c = stepped_then (stepped c.ask_key.ensures.step) (stepped
 
 pub returns-in-Err-clause-once : goal.returns-in-Err-clause-once
 returns-in-Err-clause-once g c =
-    once_few 1 (1 + length (plan_keys c.args.ready.now.plan (length c.args.ready.now.plan.ops))) (g.D.Depot.shown c.args.depot.now) (g.D.Depot.shown c.ask_key.new.depot) (omega arith) c.ask_key.ensures.once
+    once_few 1 (1 + length (plan_keys c.args.ready.now.plan (length c.args.ready.now.plan.ops))) (g.D.PutStore.shown c.args.depot.now) (g.D.PutStore.shown c.ask_key.new.depot) (omega arith) c.ask_key.ensures.once
 
 pub returns-in-Err-find_done-clause-once : goal.returns-in-Err-find_done-clause-once
 returns-in-Err-find_done-clause-once g c =
-    once_then 1 (length (plan_keys c.args.ready.now.plan (length c.args.ready.now.plan.ops))) (g.D.Depot.shown c.args.depot.now) (g.D.Depot.shown c.ask_key.new.depot) (g.D.Depot.shown c.find_done.new.depot)
+    once_then 1 (length (plan_keys c.args.ready.now.plan (length c.args.ready.now.plan.ops))) (g.D.PutStore.shown c.args.depot.now) (g.D.PutStore.shown c.ask_key.new.depot) (g.D.PutStore.shown c.find_done.new.depot)
     c.ask_key.ensures.once c.find_done.ensures.once
 
 pub returns-in-Ok-make-clause-once : goal.returns-in-Ok-make-clause-once
 returns-in-Ok-make-clause-once g c =
-    once_then 1 (length (plan_keys c.args.ready.now.plan (length c.args.ready.now.plan.ops))) (g.D.Depot.shown c.args.depot.now) (g.D.Depot.shown c.ask_key.new.depot) (g.D.Depot.shown c.find_done.new.depot)
+    once_then 1 (length (plan_keys c.args.ready.now.plan (length c.args.ready.now.plan.ops))) (g.D.PutStore.shown c.args.depot.now) (g.D.PutStore.shown c.ask_key.new.depot) (g.D.PutStore.shown c.find_done.new.depot)
     c.ask_key.ensures.once c.find_done.ensures.once
 
 pub returns-clause-once : goal.returns-clause-once
 returns-clause-once g c =
-    once_then 1 (length (plan_keys c.args.ready.now.plan (length c.args.ready.now.plan.ops))) (g.D.Depot.shown c.args.depot.now) (g.D.Depot.shown c.ask_key.new.depot) (g.D.Depot.shown c.find_done.new.depot)
+    once_then 1 (length (plan_keys c.args.ready.now.plan (length c.args.ready.now.plan.ops))) (g.D.PutStore.shown c.args.depot.now) (g.D.PutStore.shown c.ask_key.new.depot) (g.D.PutStore.shown c.find_done.new.depot)
     c.ask_key.ensures.once c.find_done.ensures.once

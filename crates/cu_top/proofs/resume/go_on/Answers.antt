@@ -23,13 +23,13 @@ pub find_rest-requires-clause-known : goal.find_rest-requires-clause-known
 find_rest-requires-clause-known g c =
     let (text, old, found, premise) = c.requires.left in
     let out = stream None 0 in
-    record_in (case c.args.options.now text (scene out out old) (scene out out old)) c.args.ready.now.job (g.D.Depot.shown c.args.depot.now) found premise
+    record_in (case c.args.options.now text (scene out out old) (scene out out old)) c.args.ready.now.job (g.D.PutStore.shown c.args.depot.now) found premise
 
 pub returns-in-Err : goal.returns-in-Err
 returns-in-Err g c = record {
   ended = λ text old source next sink after before found premise asked.
       let options = c.args.options.now in
-      let run = case options text (scene source sink old) (scene next after (g.D.Depot.shown c.find_rest.new.depot)) in
+      let run = case options text (scene source sink old) (scene next after (g.D.PutStore.shown c.find_rest.new.depot)) in
       let job = c.args.ready.now.job in
       let laws : PlanLaws run job = record {
         sound = c.merged_plan_law.ensures.sound job.expr job.types job.inputs.items options found.planned;
@@ -41,19 +41,19 @@ returns-in-Err g c = record {
         left = c.left_law.ensures;
         meant = meant run job found.planned c.merged_plan_law.ensures.inputs c.merged_plan_law.ensures.output c.merged_plan_law.ensures.equal c.complete_law.ensures.elements;
       } in
-      rest_refused run job (g.D.Share.yards_lack c.find_rest.new.depot) (g.D.Depot.shown c.args.depot.now) c.in-Err.status
-      (reopened run job (g.D.Depot.shown c.args.depot.now) found laws) found.spared c.find_rest.ensures.step c.in-Err.ensures.fault;
+      rest_refused run job (g.D.SharedStore.yards_lack c.find_rest.new.depot) (g.D.PutStore.shown c.args.depot.now) c.in-Err.status
+      (reopened run job (g.D.PutStore.shown c.args.depot.now) found laws) found.spared c.find_rest.ensures.step c.in-Err.ensures.fault;
   calls = tt;
   starts = tt;
-  stopped_calls = rest_stopped c.args.options.now c.args.ready.now.job c.args.ready.now.plan (keys_of c.args.options.now c.args.ready.now.job) (g.D.Depot.shown c.args.depot.now)
-      (g.D.Depot.shown c.find_rest.new.depot) c.requires.ready.plan_is c.find_rest.ensures.calls c.in-Err.status c.in-Err.ensures.fault;
+  stopped_calls = rest_stopped c.args.options.now c.args.ready.now.job c.args.ready.now.plan (keys_of c.args.options.now c.args.ready.now.job) (g.D.PutStore.shown c.args.depot.now)
+      (g.D.PutStore.shown c.find_rest.new.depot) c.requires.ready.plan_is c.find_rest.ensures.calls c.in-Err.status c.in-Err.ensures.fault;
 }
 
 pub drive_plan-requires-clause-apart : goal.drive_plan-requires-clause-apart
 drive_plan-requires-clause-apart g c κs within =
     let (text, old, found, premise) = c.requires.left in
-    let start = g.D.Depot.shown c.args.depot.now in
-    let now = g.D.Depot.shown c.find_rest.new.depot in
+    let start = g.D.PutStore.shown c.args.depot.now in
+    let now = g.D.PutStore.shown c.find_rest.new.depot in
     let options = c.args.options.now in
     let out = stream None 0 in
     let run = case options text (scene out out old) (scene out out now) in
@@ -74,8 +74,8 @@ drive_plan-requires-clause-apart g c κs within =
 pub drive_plan-requires-clause-inputs : goal.drive_plan-requires-clause-inputs
 drive_plan-requires-clause-inputs g c κs within =
     let (text, old, found, premise) = c.requires.left in
-    let start = g.D.Depot.shown c.args.depot.now in
-    let now = g.D.Depot.shown c.find_rest.new.depot in
+    let start = g.D.PutStore.shown c.args.depot.now in
+    let now = g.D.PutStore.shown c.find_rest.new.depot in
     let options = c.args.options.now in
     let out = stream None 0 in
     let run = case options text (scene out out old) (scene out out now) in
@@ -96,8 +96,8 @@ drive_plan-requires-clause-inputs g c κs within =
 pub drive_plan-requires-clause-open : goal.drive_plan-requires-clause-open
 drive_plan-requires-clause-open g c κs within =
     let (text, old, found, premise) = c.requires.left in
-    let start = g.D.Depot.shown c.args.depot.now in
-    let now = g.D.Depot.shown c.find_rest.new.depot in
+    let start = g.D.PutStore.shown c.args.depot.now in
+    let now = g.D.PutStore.shown c.find_rest.new.depot in
     let options = c.args.options.now in
     let out = stream None 0 in
     let run = case options text (scene out out old) (scene out out now) in
@@ -118,10 +118,10 @@ drive_plan-requires-clause-open g c κs within =
 pub returns : goal.returns
 returns g c = record {
   ended = λ text old source next sink after before found premise asked.
-      let start = g.D.Depot.shown c.args.depot.now in
-      let now = g.D.Depot.shown c.find_rest.new.depot in
-      let new = g.D.Depot.shown c.drive_plan.new.depot in
-      let lack = g.D.Share.yards_lack c.drive_plan.new.depot in
+      let start = g.D.PutStore.shown c.args.depot.now in
+      let now = g.D.PutStore.shown c.find_rest.new.depot in
+      let new = g.D.PutStore.shown c.drive_plan.new.depot in
+      let lack = g.D.SharedStore.yards_lack c.drive_plan.new.depot in
       let options = c.args.options.now in
       let run = case options text (scene source sink old) (scene next after new) in
       let job = c.args.ready.now.job in
@@ -160,12 +160,12 @@ returns g c = record {
       (before + (1 + length (plan_keys (job_plan options job) (length (job_plan options job).ops)))) once c.in-Ok.ensures.texts c.in-Ok.ensures.found
       (names_later (plan_in run job) old start done found.spared c.in-Ok.ensures.named) result driven));
   calls = if_ok c.drive_plan.result
-      (λ counts. rest_driven c.args.options.now c.args.ready.now.job c.args.ready.now.plan (g.D.Depot.shown c.args.depot.now) (g.D.Depot.shown c.find_rest.new.depot) (g.D.Depot.shown c.drive_plan.new.depot)
+      (λ counts. rest_driven c.args.options.now c.args.ready.now.job c.args.ready.now.plan (g.D.PutStore.shown c.args.depot.now) (g.D.PutStore.shown c.find_rest.new.depot) (g.D.PutStore.shown c.drive_plan.new.depot)
       c.requires.ready.plan_is c.find_rest.ensures.calls c.in-Ok.rest.held c.in-Ok.ensures.has Done) c.drive_plan.ensures.calls;
   starts = if_ok c.drive_plan.result
-      (λ counts. rest_starts c.args.options.now c.args.ready.now.job c.args.ready.now.plan counts (g.D.Depot.shown c.args.depot.now) (g.D.Depot.shown c.find_rest.new.depot)
-      (g.D.Depot.shown c.drive_plan.new.depot) c.requires.ready.plan_is c.find_rest.ensures.calls c.in-Ok.rest.held c.in-Ok.ensures.has) c.drive_plan.ensures.starts;
+      (λ counts. rest_starts c.args.options.now c.args.ready.now.job c.args.ready.now.plan counts (g.D.PutStore.shown c.args.depot.now) (g.D.PutStore.shown c.find_rest.new.depot)
+      (g.D.PutStore.shown c.drive_plan.new.depot) c.requires.ready.plan_is c.find_rest.ensures.calls c.in-Ok.rest.held c.in-Ok.ensures.has) c.drive_plan.ensures.starts;
   stopped_calls = if_err c.drive_plan.result
-      (rest_driven c.args.options.now c.args.ready.now.job c.args.ready.now.plan (g.D.Depot.shown c.args.depot.now) (g.D.Depot.shown c.find_rest.new.depot) (g.D.Depot.shown c.drive_plan.new.depot)
+      (rest_driven c.args.options.now c.args.ready.now.job c.args.ready.now.plan (g.D.PutStore.shown c.args.depot.now) (g.D.PutStore.shown c.find_rest.new.depot) (g.D.PutStore.shown c.drive_plan.new.depot)
       c.requires.ready.plan_is c.find_rest.ensures.calls c.in-Ok.rest.held c.in-Ok.ensures.has) c.drive_plan.ensures.stopped_calls;
 }

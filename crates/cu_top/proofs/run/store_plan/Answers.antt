@@ -21,7 +21,7 @@ use Rattle.cu_top.proofs.run.store_plan.Goals as goal
 pub drive_plan-requires-clause-apart : goal.drive_plan-requires-clause-apart
 drive_plan-requires-clause-apart g c κs within =
     let (text, old, cleared, calm) = c.requires.quiet in
-    let start = g.D.Depot.shown c.args.depot.now in
+    let start = g.D.PutStore.shown c.args.depot.now in
     let options = c.args.options.now in
     let out = stream None 0 in
     let run = case options text (scene out out old) (scene out out start) in
@@ -42,7 +42,7 @@ drive_plan-requires-clause-apart g c κs within =
 pub drive_plan-requires-clause-inputs : goal.drive_plan-requires-clause-inputs
 drive_plan-requires-clause-inputs g c κs within =
     let (text, old, cleared, calm) = c.requires.quiet in
-    let start = g.D.Depot.shown c.args.depot.now in
+    let start = g.D.PutStore.shown c.args.depot.now in
     let options = c.args.options.now in
     let out = stream None 0 in
     let run = case options text (scene out out old) (scene out out start) in
@@ -63,7 +63,7 @@ drive_plan-requires-clause-inputs g c κs within =
 pub drive_plan-requires-clause-open : goal.drive_plan-requires-clause-open
 drive_plan-requires-clause-open g c κs within =
     let (text, old, cleared, calm) = c.requires.quiet in
-    let start = g.D.Depot.shown c.args.depot.now in
+    let start = g.D.PutStore.shown c.args.depot.now in
     let options = c.args.options.now in
     let out = stream None 0 in
     let run = case options text (scene out out old) (scene out out start) in
@@ -90,9 +90,9 @@ drive_plan-requires-clause-found g c κs within = λ held told.
 pub returns : goal.returns
 returns g c = record {
   ended = λ text old source next sink after before cleared once.
-      let start = g.D.Depot.shown c.args.depot.now in
-      let now = g.D.Depot.shown c.drive_plan.new.depot in
-      let lack = g.D.Share.yards_lack c.drive_plan.new.depot in
+      let start = g.D.PutStore.shown c.args.depot.now in
+      let now = g.D.PutStore.shown c.drive_plan.new.depot in
+      let lack = g.D.SharedStore.yards_lack c.drive_plan.new.depot in
       let options = c.args.options.now in
       let run = case options text (scene source sink old) (scene next after now) in
       let job = c.args.ready.now.job in

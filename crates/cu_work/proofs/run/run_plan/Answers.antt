@@ -18,73 +18,73 @@ both_tries a mid n m r k first then = omega (arith, first, then)
 
 pub returns-in-Err-clause-record : goal.returns-in-Err-clause-record
 returns-in-Err-clause-record g c = λ env left.
-    unstored_first c.args.plan.now c.args.texts.now env (c.args.options.now.retries + 1) (g.D.Depot.shown c.args.depot.now) (g.D.Depot.shown c.put_texts.new.depot) c.in-Err.fault (c.in-Err.ensures.unstored env left)
+    unstored_first c.args.plan.now c.args.texts.now env (c.args.options.now.retries + 1) (g.D.PutStore.shown c.args.depot.now) (g.D.PutStore.shown c.put_texts.new.depot) c.in-Err.fault (c.in-Err.ensures.unstored env left)
 
 pub run_tasks-requires-clause-apart : goal.run_tasks-requires-clause-apart
 run_tasks-requires-clause-apart g c κs within = apart_alone (run_of c.args.plan.now c.args.texts.now) c.requires.apart
 
 pub run_tasks-requires-clause-open : goal.run_tasks-requires-clause-open
 run_tasks-requires-clause-open g c κs within =
-    open_mid c.args.plan.now c.args.texts.now c.args.held (c.args.options.now.retries + 1) (g.D.Depot.shown c.args.depot.now) (g.D.Depot.shown c.put_texts.new.depot) c.put_texts.ensures.step c.put_texts.ensures.own c.requires.open
+    open_mid c.args.plan.now c.args.texts.now c.args.held (c.args.options.now.retries + 1) (g.D.PutStore.shown c.args.depot.now) (g.D.PutStore.shown c.put_texts.new.depot) c.put_texts.ensures.step c.put_texts.ensures.own c.requires.open
 
 pub run_tasks-requires-clause-found : goal.run_tasks-requires-clause-found
 run_tasks-requires-clause-found g c κs within =
-    found_mid c.args.plan.now c.args.texts.now c.args.held (c.args.options.now.retries + 1) (g.D.Depot.shown c.args.depot.now) (g.D.Depot.shown c.put_texts.new.depot) c.put_texts.ensures.step c.put_texts.ensures.own
+    found_mid c.args.plan.now c.args.texts.now c.args.held (c.args.options.now.retries + 1) (g.D.PutStore.shown c.args.depot.now) (g.D.PutStore.shown c.put_texts.new.depot) c.put_texts.ensures.step c.put_texts.ensures.own
     c.args.memory.table.done c.requires.found
 
 pub returns-in-Ok-clause-step : goal.returns-in-Ok-clause-step
 returns-in-Ok-clause-step g c =
-    run_step c.args.plan.now c.args.texts.now c.args.held (c.args.options.now.retries + 1) (g.D.Depot.shown c.args.depot.now) (g.D.Depot.shown c.put_texts.new.depot) c.put_texts.ensures.step c.put_texts.ensures.own
-    (g.D.Depot.shown c.run_tasks.new.depot) c.run_tasks.ensures.step
+    run_step c.args.plan.now c.args.texts.now c.args.held (c.args.options.now.retries + 1) (g.D.PutStore.shown c.args.depot.now) (g.D.PutStore.shown c.put_texts.new.depot) c.put_texts.ensures.step c.put_texts.ensures.own
+    (g.D.PutStore.shown c.run_tasks.new.depot) c.run_tasks.ensures.step
 
 pub returns-in-Err-run_tasks-clause-step : goal.returns-in-Err-run_tasks-clause-step
 returns-in-Err-run_tasks-clause-step g c =
-    run_step c.args.plan.now c.args.texts.now c.args.held (c.args.options.now.retries + 1) (g.D.Depot.shown c.args.depot.now) (g.D.Depot.shown c.put_texts.new.depot) c.put_texts.ensures.step c.put_texts.ensures.own
-    (g.D.Depot.shown c.run_tasks.new.depot) c.run_tasks.ensures.step
+    run_step c.args.plan.now c.args.texts.now c.args.held (c.args.options.now.retries + 1) (g.D.PutStore.shown c.args.depot.now) (g.D.PutStore.shown c.put_texts.new.depot) c.put_texts.ensures.step c.put_texts.ensures.own
+    (g.D.PutStore.shown c.run_tasks.new.depot) c.run_tasks.ensures.step
 
 pub returns-in-Ok-clause-texts : goal.returns-in-Ok-clause-texts
 returns-in-Ok-clause-texts g c =
-    texts_after c.args.plan.now c.args.texts.now c.args.held (c.args.options.now.retries + 1) (g.D.Depot.shown c.args.depot.now) (g.D.Depot.shown c.put_texts.new.depot) c.put_texts.ensures.step c.put_texts.ensures.own
-    (g.D.Depot.shown c.run_tasks.new.depot) c.run_tasks.ensures.step
+    texts_after c.args.plan.now c.args.texts.now c.args.held (c.args.options.now.retries + 1) (g.D.PutStore.shown c.args.depot.now) (g.D.PutStore.shown c.put_texts.new.depot) c.put_texts.ensures.step c.put_texts.ensures.own
+    (g.D.PutStore.shown c.run_tasks.new.depot) c.run_tasks.ensures.step
     c.in_default.ensures.stored
 
 pub returns-in-Ok-clause-record : goal.returns-in-Ok-clause-record
 returns-in-Ok-clause-record g c = λ env left.
-    inr (texts_after c.args.plan.now c.args.texts.now c.args.held (c.args.options.now.retries + 1) (g.D.Depot.shown c.args.depot.now) (g.D.Depot.shown c.put_texts.new.depot) c.put_texts.ensures.step c.put_texts.ensures.own
-    (g.D.Depot.shown c.run_tasks.new.depot) c.run_tasks.ensures.step
+    inr (texts_after c.args.plan.now c.args.texts.now c.args.held (c.args.options.now.retries + 1) (g.D.PutStore.shown c.args.depot.now) (g.D.PutStore.shown c.put_texts.new.depot) c.put_texts.ensures.step c.put_texts.ensures.own
+    (g.D.PutStore.shown c.run_tasks.new.depot) c.run_tasks.ensures.step
     c.in_default.ensures.stored env left 0 (omega arith))
 
 pub returns-in-Err-run_tasks-clause-record : goal.returns-in-Err-run_tasks-clause-record
 returns-in-Err-run_tasks-clause-record g c = λ env left.
-    inr (texts_after c.args.plan.now c.args.texts.now c.args.held (c.args.options.now.retries + 1) (g.D.Depot.shown c.args.depot.now) (g.D.Depot.shown c.put_texts.new.depot) c.put_texts.ensures.step c.put_texts.ensures.own
-    (g.D.Depot.shown c.run_tasks.new.depot) c.run_tasks.ensures.step
+    inr (texts_after c.args.plan.now c.args.texts.now c.args.held (c.args.options.now.retries + 1) (g.D.PutStore.shown c.args.depot.now) (g.D.PutStore.shown c.put_texts.new.depot) c.put_texts.ensures.step c.put_texts.ensures.own
+    (g.D.PutStore.shown c.run_tasks.new.depot) c.run_tasks.ensures.step
     c.in_default.ensures.stored env left 0 (omega arith))
 
 pub returns-in-Ok-clause-done : goal.returns-in-Ok-clause-done
 returns-in-Ok-clause-done g c = λ env left.
-    c.in-Ok.ensures.done env (alone_mid c.args.plan.now c.args.texts.now c.args.held (c.args.options.now.retries + 1) (g.D.Depot.shown c.args.depot.now) (g.D.Depot.shown c.put_texts.new.depot) c.put_texts.ensures.step c.put_texts.ensures.own env left)
+    c.in-Ok.ensures.done env (alone_mid c.args.plan.now c.args.texts.now c.args.held (c.args.options.now.retries + 1) (g.D.PutStore.shown c.args.depot.now) (g.D.PutStore.shown c.put_texts.new.depot) c.put_texts.ensures.step c.put_texts.ensures.own env left)
 
 pub returns-in-Ok-clause-complete : goal.returns-in-Ok-clause-complete
 returns-in-Ok-clause-complete g c = λ env left.
-    complete_after c.args.plan.now c.args.texts.now c.args.held (c.args.options.now.retries + 1) (g.D.Depot.shown c.args.depot.now) (g.D.Depot.shown c.put_texts.new.depot) c.put_texts.ensures.step c.put_texts.ensures.own
-    (g.D.Depot.shown c.run_tasks.new.depot) c.run_tasks.ensures.step
-    c.in_default.ensures.stored c.args.memory.table c.in-Ok.end.table (g.D.Depot.shown c.put_texts.new.depot) c.in-Ok.end.outcome (ap (λ (t : TableView). t.settings.plan) c.requires.memory.table)
-    c.in-Ok.ensures.driven env left (c.in-Ok.ensures.done env (alone_mid c.args.plan.now c.args.texts.now c.args.held (c.args.options.now.retries + 1) (g.D.Depot.shown c.args.depot.now) (g.D.Depot.shown c.put_texts.new.depot) c.put_texts.ensures.step c.put_texts.ensures.own env left))
+    complete_after c.args.plan.now c.args.texts.now c.args.held (c.args.options.now.retries + 1) (g.D.PutStore.shown c.args.depot.now) (g.D.PutStore.shown c.put_texts.new.depot) c.put_texts.ensures.step c.put_texts.ensures.own
+    (g.D.PutStore.shown c.run_tasks.new.depot) c.run_tasks.ensures.step
+    c.in_default.ensures.stored c.args.memory.table c.in-Ok.end.table (g.D.PutStore.shown c.put_texts.new.depot) c.in-Ok.end.outcome (ap (λ (t : TableView). t.settings.plan) c.requires.memory.table)
+    c.in-Ok.ensures.driven env left (c.in-Ok.ensures.done env (alone_mid c.args.plan.now c.args.texts.now c.args.held (c.args.options.now.retries + 1) (g.D.PutStore.shown c.args.depot.now) (g.D.PutStore.shown c.put_texts.new.depot) c.put_texts.ensures.step c.put_texts.ensures.own env left))
 
 pub returns-in-Ok-clause-input : goal.returns-in-Ok-clause-input
 returns-in-Ok-clause-input g c = λ env left.
-    c.in-Ok.ensures.input env (alone_mid c.args.plan.now c.args.texts.now c.args.held (c.args.options.now.retries + 1) (g.D.Depot.shown c.args.depot.now) (g.D.Depot.shown c.put_texts.new.depot) c.put_texts.ensures.step c.put_texts.ensures.own env left)
+    c.in-Ok.ensures.input env (alone_mid c.args.plan.now c.args.texts.now c.args.held (c.args.options.now.retries + 1) (g.D.PutStore.shown c.args.depot.now) (g.D.PutStore.shown c.put_texts.new.depot) c.put_texts.ensures.step c.put_texts.ensures.own env left)
 
 pub returns-in-Err-run_tasks-clause-unstored : goal.returns-in-Err-run_tasks-clause-unstored
 returns-in-Err-run_tasks-clause-unstored g c = λ env left.
-    subst (IsUnstored (run_of c.args.plan.now c.args.texts.now) env (c.args.options.now.retries + 1) (g.D.Depot.shown c.args.depot.now) (g.D.Depot.shown c.run_tasks.new.depot)) (sym c.fault_of.ensures)
-    (share_unstored c.args.plan.now c.args.texts.now c.args.held (c.args.options.now.retries + 1) (g.D.Depot.shown c.args.depot.now) (g.D.Depot.shown c.put_texts.new.depot) c.put_texts.ensures.step c.put_texts.ensures.own (g.D.Depot.shown c.run_tasks.new.depot)
-    (texts_after c.args.plan.now c.args.texts.now c.args.held (c.args.options.now.retries + 1) (g.D.Depot.shown c.args.depot.now) (g.D.Depot.shown c.put_texts.new.depot) c.put_texts.ensures.step c.put_texts.ensures.own
-    (g.D.Depot.shown c.run_tasks.new.depot) c.run_tasks.ensures.step c.in_default.ensures.stored) c.in-Err-run_tasks.fault env left)
+    subst (IsUnstored (run_of c.args.plan.now c.args.texts.now) env (c.args.options.now.retries + 1) (g.D.PutStore.shown c.args.depot.now) (g.D.PutStore.shown c.run_tasks.new.depot)) (sym c.fault_of.ensures)
+    (share_unstored c.args.plan.now c.args.texts.now c.args.held (c.args.options.now.retries + 1) (g.D.PutStore.shown c.args.depot.now) (g.D.PutStore.shown c.put_texts.new.depot) c.put_texts.ensures.step c.put_texts.ensures.own (g.D.PutStore.shown c.run_tasks.new.depot)
+    (texts_after c.args.plan.now c.args.texts.now c.args.held (c.args.options.now.retries + 1) (g.D.PutStore.shown c.args.depot.now) (g.D.PutStore.shown c.put_texts.new.depot) c.put_texts.ensures.step c.put_texts.ensures.own
+    (g.D.PutStore.shown c.run_tasks.new.depot) c.run_tasks.ensures.step c.in_default.ensures.stored) c.in-Err-run_tasks.fault env left)
 
 pub returns-in-Err-run_tasks-clause-refused : goal.returns-in-Err-run_tasks-clause-refused
 returns-in-Err-run_tasks-clause-refused g c =
-    share_refused c.args.plan.now c.args.texts.now c.args.held (c.args.options.now.retries + 1) (g.D.Depot.shown c.args.depot.now) (g.D.Depot.shown c.put_texts.new.depot) c.put_texts.ensures.step c.put_texts.ensures.own (g.D.Depot.shown c.run_tasks.new.depot) c.in-Err-run_tasks.ensures.refused
+    share_refused c.args.plan.now c.args.texts.now c.args.held (c.args.options.now.retries + 1) (g.D.PutStore.shown c.args.depot.now) (g.D.PutStore.shown c.put_texts.new.depot) c.put_texts.ensures.step c.put_texts.ensures.own (g.D.PutStore.shown c.run_tasks.new.depot) c.in-Err-run_tasks.ensures.refused
 
 pub returns-in-Ok-clause-tries : goal.returns-in-Ok-clause-tries
 returns-in-Ok-clause-tries g c = λ m most.
@@ -92,7 +92,7 @@ returns-in-Ok-clause-tries g c = λ m most.
 
 pub returns-in-Ok-clause-once : goal.returns-in-Ok-clause-once
 returns-in-Ok-clause-once g c =
-    once_before (missing_texts c.args.held) 1 c.args.plan.now c.in-Ok.end.table.history (g.D.Depot.shown c.args.depot.now) (g.D.Depot.shown c.put_texts.new.depot) (g.D.Depot.shown c.run_tasks.new.depot) c.put_texts.ensures.once c.in-Ok.ensures.once
+    once_before (missing_texts c.args.held) 1 c.args.plan.now c.in-Ok.end.table.history (g.D.PutStore.shown c.args.depot.now) (g.D.PutStore.shown c.put_texts.new.depot) (g.D.PutStore.shown c.run_tasks.new.depot) c.put_texts.ensures.once c.in-Ok.ensures.once
 
 pub returns-in-Ok-clause-begun_once : goal.returns-in-Ok-clause-begun_once
 returns-in-Ok-clause-begun_once g c = tt
@@ -102,14 +102,14 @@ returns-in-Err-clause-once g c = tt
 
 pub returns-in-Err-clause-begun_once : goal.returns-in-Err-clause-begun_once
 returns-in-Err-clause-begun_once g c =
-    once_few (missing_texts c.args.held) (missing_texts c.args.held + 1) (g.D.Depot.shown c.args.depot.now) (g.D.Depot.shown c.put_texts.new.depot) (omega arith) c.put_texts.ensures.once
+    once_few (missing_texts c.args.held) (missing_texts c.args.held + 1) (g.D.PutStore.shown c.args.depot.now) (g.D.PutStore.shown c.put_texts.new.depot) (omega arith) c.put_texts.ensures.once
 
 pub returns-in-Err-run_tasks-clause-once : goal.returns-in-Err-run_tasks-clause-once
 returns-in-Err-run_tasks-clause-once g c = tt
 
 pub returns-in-Err-run_tasks-clause-begun_once : goal.returns-in-Err-run_tasks-clause-begun_once
 returns-in-Err-run_tasks-clause-begun_once g c =
-    once_then (missing_texts c.args.held) 1 (g.D.Depot.shown c.args.depot.now) (g.D.Depot.shown c.put_texts.new.depot) (g.D.Depot.shown c.run_tasks.new.depot) c.put_texts.ensures.once c.in-Err-run_tasks.ensures.begun_once
+    once_then (missing_texts c.args.held) 1 (g.D.PutStore.shown c.args.depot.now) (g.D.PutStore.shown c.put_texts.new.depot) (g.D.PutStore.shown c.run_tasks.new.depot) c.put_texts.ensures.once c.in-Err-run_tasks.ensures.begun_once
 
 pub returns-in-Ok-clause-workers : goal.returns-in-Ok-clause-workers
 returns-in-Ok-clause-workers g c = c.in-Ok.ensures.workers

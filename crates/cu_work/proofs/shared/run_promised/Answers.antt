@@ -37,18 +37,18 @@ share_tries-requires-clause-apart g c κs within =
 
 pub share_tries-requires-clause-may : goal.share_tries-requires-clause-may
 share_tries-requires-clause-may g c κs within =
-    let start = g.D.Depot.shown c.args.depot.now in
+    let start = g.D.PutStore.shown c.args.depot.now in
     subst (λ (l : Lent). MayShare l start)
     (lent_is c.args.plan.now start.held c.deref.result.now c.make-promise.result.map (c.deref.ensures.value ∙ c.requires.memory.specs) (c.make-promise.ensures ∙ c.requires.names))
     (may_share c.args.plan.now c.ops-sound.ensures.sound c.requires.apart c.requires.inputs start c.requires.open)
 
 pub work-end-requires-clause-serves : goal.work-end-requires-clause-serves
 work-end-requires-clause-serves g c κs within =
-    let start = g.D.Depot.shown c.args.depot.now in
-    let mid = g.D.Depot.shown c.share_tries.new.depot in
+    let start = g.D.PutStore.shown c.args.depot.now in
+    let mid = g.D.PutStore.shown c.share_tries.new.depot in
     let yard = g.D.Yard.Yard.serves c.in-Ok.yard in
     let first = g.D.Yard.Yard.knows c.in-Ok.pass in
-    let wants = g.D.Share.yards_lack c.args.depot.now in
+    let wants = g.D.SharedStore.yards_lack c.args.depot.now in
     serves c.args.plan.now c.ops-sound.ensures.sound c.requires.apart c.requires.inputs start c.requires.open (c.args.options.now.retries + 1) mid c.share_tries.ensures.step wants yard first
     (subst (λ (l : Lent). IsShared l wants mid yard first)
     (sym (lent_is c.args.plan.now start.held c.deref.result.now c.make-promise.result.map (c.deref.ensures.value ∙ c.requires.memory.specs) (c.make-promise.ensures ∙ c.requires.names)))
@@ -56,11 +56,11 @@ work-end-requires-clause-serves g c κs within =
 
 pub work-end-requires-clause-seen : goal.work-end-requires-clause-seen
 work-end-requires-clause-seen g c κs within =
-    let start = g.D.Depot.shown c.args.depot.now in
-    let mid = g.D.Depot.shown c.share_tries.new.depot in
+    let start = g.D.PutStore.shown c.args.depot.now in
+    let mid = g.D.PutStore.shown c.share_tries.new.depot in
     let yard = g.D.Yard.Yard.serves c.in-Ok.yard in
     let first = g.D.Yard.Yard.knows c.in-Ok.pass in
-    let wants = g.D.Share.yards_lack c.args.depot.now in
+    let wants = g.D.SharedStore.yards_lack c.args.depot.now in
     subst (λ (m : Machine). HasSeenDone c.args.plan.now m first.seen) (sym (ap (λ (t : TableView). t.state) c.requires.memory.table))
     (seen_first c.args.plan.now c.ops-sound.ensures.sound c.requires.apart c.requires.inputs start c.requires.open (c.args.options.now.retries + 1) mid c.share_tries.ensures.step wants yard first
     (subst (λ (l : Lent). IsShared l wants mid yard first)
@@ -70,12 +70,12 @@ work-end-requires-clause-seen g c κs within =
 
 pub unshare-requires-clause-may : goal.unshare-requires-clause-may
 unshare-requires-clause-may g c =
-    let start = g.D.Depot.shown c.args.depot.now in
-    let mid = g.D.Depot.shown c.share_tries.new.depot in
+    let start = g.D.PutStore.shown c.args.depot.now in
+    let mid = g.D.PutStore.shown c.share_tries.new.depot in
     let yard = g.D.Yard.Yard.serves c.in-Ok.yard in
     let first = g.D.Yard.Yard.knows c.in-Ok.pass in
     let last = g.D.Yard.Yard.knows c.work-end.new.pass in
-    let wants = g.D.Share.yards_lack c.args.depot.now in
+    let wants = g.D.SharedStore.yards_lack c.args.depot.now in
     let same = lent_is c.args.plan.now start.held c.deref.result.now c.make-promise.result.map (c.deref.ensures.value ∙ c.requires.memory.specs) (c.make-promise.ensures ∙ c.requires.names) in
     subst (λ (l : Lent). MayGiveBack l mid yard last) (same ∙ sym c.in-Ok.ensures.lent)
     (may_give_back c.args.plan.now c.ops-sound.ensures.sound c.requires.apart c.requires.inputs start c.requires.open (c.args.options.now.retries + 1) mid c.share_tries.ensures.step wants yard first
@@ -84,13 +84,13 @@ unshare-requires-clause-may g c =
 
 pub returns-in-Ok-clause-step : goal.returns-in-Ok-clause-step
 returns-in-Ok-clause-step g c =
-    let start = g.D.Depot.shown c.args.depot.now in
-    let mid = g.D.Depot.shown c.share_tries.new.depot in
-    let new = g.D.Depot.shown c.unshare.new.self in
+    let start = g.D.PutStore.shown c.args.depot.now in
+    let mid = g.D.PutStore.shown c.share_tries.new.depot in
+    let new = g.D.PutStore.shown c.unshare.new.self in
     let yard = g.D.Yard.Yard.serves c.in-Ok.yard in
     let first = g.D.Yard.Yard.knows c.in-Ok.pass in
     let last = g.D.Yard.Yard.knows c.work-end.new.pass in
-    let wants = g.D.Share.yards_lack c.args.depot.now in
+    let wants = g.D.SharedStore.yards_lack c.args.depot.now in
     let same = lent_is c.args.plan.now start.held c.deref.result.now c.make-promise.result.map (c.deref.ensures.value ∙ c.requires.memory.specs) (c.make-promise.ensures ∙ c.requires.names) in
     let lent = c.in-Ok.ensures.lent ∙ sym same in
     shared_step c.args.plan.now c.ops-sound.ensures.sound c.requires.apart c.requires.inputs start c.requires.open (c.args.options.now.retries + 1) mid c.share_tries.ensures.step wants yard first
@@ -100,13 +100,13 @@ returns-in-Ok-clause-step g c =
 
 pub returns-in-Ok-clause-done : goal.returns-in-Ok-clause-done
 returns-in-Ok-clause-done g c =
-    let start = g.D.Depot.shown c.args.depot.now in
-    let mid = g.D.Depot.shown c.share_tries.new.depot in
-    let new = g.D.Depot.shown c.unshare.new.self in
+    let start = g.D.PutStore.shown c.args.depot.now in
+    let mid = g.D.PutStore.shown c.share_tries.new.depot in
+    let new = g.D.PutStore.shown c.unshare.new.self in
     let yard = g.D.Yard.Yard.serves c.in-Ok.yard in
     let first = g.D.Yard.Yard.knows c.in-Ok.pass in
     let last = g.D.Yard.Yard.knows c.work-end.new.pass in
-    let wants = g.D.Share.yards_lack c.args.depot.now in
+    let wants = g.D.SharedStore.yards_lack c.args.depot.now in
     let same = lent_is c.args.plan.now start.held c.deref.result.now c.make-promise.result.map (c.deref.ensures.value ∙ c.requires.memory.specs) (c.make-promise.ensures ∙ c.requires.names) in
     let lent = c.in-Ok.ensures.lent ∙ sym same in
     shared_done c.args.plan.now c.ops-sound.ensures.sound c.requires.apart c.requires.inputs start c.requires.open (c.args.options.now.retries + 1) mid c.share_tries.ensures.step wants yard first
@@ -117,13 +117,13 @@ returns-in-Ok-clause-done g c =
 
 pub returns-in-Ok-clause-bad : goal.returns-in-Ok-clause-bad
 returns-in-Ok-clause-bad g c =
-    let start = g.D.Depot.shown c.args.depot.now in
-    let mid = g.D.Depot.shown c.share_tries.new.depot in
-    let new = g.D.Depot.shown c.unshare.new.self in
+    let start = g.D.PutStore.shown c.args.depot.now in
+    let mid = g.D.PutStore.shown c.share_tries.new.depot in
+    let new = g.D.PutStore.shown c.unshare.new.self in
     let yard = g.D.Yard.Yard.serves c.in-Ok.yard in
     let first = g.D.Yard.Yard.knows c.in-Ok.pass in
     let last = g.D.Yard.Yard.knows c.work-end.new.pass in
-    let wants = g.D.Share.yards_lack c.args.depot.now in
+    let wants = g.D.SharedStore.yards_lack c.args.depot.now in
     let same = lent_is c.args.plan.now start.held c.deref.result.now c.make-promise.result.map (c.deref.ensures.value ∙ c.requires.memory.specs) (c.make-promise.ensures ∙ c.requires.names) in
     let lent = c.in-Ok.ensures.lent ∙ sym same in
     shared_bad c.args.plan.now c.ops-sound.ensures.sound c.requires.apart c.requires.inputs start c.requires.open (c.args.options.now.retries + 1) mid c.share_tries.ensures.step wants yard first
@@ -133,13 +133,13 @@ returns-in-Ok-clause-bad g c =
 
 pub returns-in-Ok-clause-input : goal.returns-in-Ok-clause-input
 returns-in-Ok-clause-input g c =
-    let start = g.D.Depot.shown c.args.depot.now in
-    let mid = g.D.Depot.shown c.share_tries.new.depot in
-    let new = g.D.Depot.shown c.unshare.new.self in
+    let start = g.D.PutStore.shown c.args.depot.now in
+    let mid = g.D.PutStore.shown c.share_tries.new.depot in
+    let new = g.D.PutStore.shown c.unshare.new.self in
     let yard = g.D.Yard.Yard.serves c.in-Ok.yard in
     let first = g.D.Yard.Yard.knows c.in-Ok.pass in
     let last = g.D.Yard.Yard.knows c.work-end.new.pass in
-    let wants = g.D.Share.yards_lack c.args.depot.now in
+    let wants = g.D.SharedStore.yards_lack c.args.depot.now in
     let same = lent_is c.args.plan.now start.held c.deref.result.now c.make-promise.result.map (c.deref.ensures.value ∙ c.requires.memory.specs) (c.make-promise.ensures ∙ c.requires.names) in
     let lent = c.in-Ok.ensures.lent ∙ sym same in
     shared_input c.args.plan.now c.ops-sound.ensures.sound c.requires.apart c.requires.inputs start c.requires.open (c.args.options.now.retries + 1) mid c.share_tries.ensures.step wants yard first
@@ -149,13 +149,13 @@ returns-in-Ok-clause-input g c =
 
 pub returns-in-Ok-clause-lacked : goal.returns-in-Ok-clause-lacked
 returns-in-Ok-clause-lacked g c =
-    let start = g.D.Depot.shown c.args.depot.now in
-    let mid = g.D.Depot.shown c.share_tries.new.depot in
-    let new = g.D.Depot.shown c.unshare.new.self in
+    let start = g.D.PutStore.shown c.args.depot.now in
+    let mid = g.D.PutStore.shown c.share_tries.new.depot in
+    let new = g.D.PutStore.shown c.unshare.new.self in
     let yard = g.D.Yard.Yard.serves c.in-Ok.yard in
     let first = g.D.Yard.Yard.knows c.in-Ok.pass in
     let last = g.D.Yard.Yard.knows c.work-end.new.pass in
-    let wants = g.D.Share.yards_lack c.args.depot.now in
+    let wants = g.D.SharedStore.yards_lack c.args.depot.now in
     let same = lent_is c.args.plan.now start.held c.deref.result.now c.make-promise.result.map (c.deref.ensures.value ∙ c.requires.memory.specs) (c.make-promise.ensures ∙ c.requires.names) in
     let lent = c.in-Ok.ensures.lent ∙ sym same in
     subst (λ (b : Bool). IfLacked c.work-end.result.outcome (IsTrue b)) (sym (c.unshare.ensures.lack ∙ c.share_tries.ensures.lack))
@@ -271,7 +271,7 @@ returns-in-Ok-clause-calls g c =
 
 pub returns-in-Ok-clause-once : goal.returns-in-Ok-clause-once
 returns-in-Ok-clause-once g c =
-    shared_once c.args.plan.now c.work-end.result.table.history (g.D.Depot.shown c.args.depot.now) (g.D.Depot.shown c.share_tries.new.depot) (g.D.Depot.shown c.unshare.new.self)
+    shared_once c.args.plan.now c.work-end.result.table.history (g.D.PutStore.shown c.args.depot.now) (g.D.PutStore.shown c.share_tries.new.depot) (g.D.PutStore.shown c.unshare.new.self)
     (g.D.Yard.Yard.knows c.in-Ok.pass) (g.D.Yard.Yard.knows c.work-end.new.pass) c.share_tries.ensures.once c.in-Ok.ensures.shared.calls c.in-Ok.ensures.shared.faults
     (calls_started c.args.options.now c.args.plan.now c.args.memory.table.done c.args.memory.table c.work-end.result.table c.requires.memory.table (g.D.Yard.Yard.serves c.in-Ok.yard)
     (g.D.Yard.Yard.knows c.in-Ok.pass) (g.D.Yard.Yard.knows c.work-end.new.pass) c.work-end.ensures.worked)
