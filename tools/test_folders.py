@@ -289,6 +289,119 @@ class Syncing(InFolder):
             self.assertEqual(self.call(*words), (2, "error 2 code=2"), words)
 
 
+def cube(name, rank):
+    """The text of an array of this many axes of two elements each, in chunks of one."""
+    told = {"name": name, "data_type": "int8", "shape": [2] * rank, "chunk_shape": [1] * rank, "elements": list(range(2**rank))}
+    return json.dumps(told).encode()
+
+
+def twice_negated(name, stored):
+    nodes = [{"id": "a", "op": "input", "name": name}, {"id": "n", "op": "negative", "args": ["a"]}, {"id": "m", "op": "negative", "args": ["n"]}]
+    return json.dumps({"nodes": nodes, "out": "m", "store_as": stored}).encode()
+
+
+class Emptied(InFolder):
+    def folders(self):
+        return sorted(os.path.relpath(os.path.join(at, name), self.dir) for at, names, _ in os.walk(self.dir) for name in names)
+
+    def test_a_result_of_any_rank_may_follow_a_dropped_one(self):
+        """With the array in between stored too. Nothing of the dropped one is left, no folder either."""
+        for rank in range(4):
+            self.assertEqual(self.call("load", text=cube(f"x{rank}", rank))[0], 0)
+        left = (self.files(), self.folders())
+        for fusion in ("1", "2"):
+            for first in range(4):
+                for then in range(4):
+                    for rank in (first, then):
+                        text = twice_negated(f"x{rank}", "y")
+                        told = self.call("run", "--fusion", fusion, text=text)
+                        self.assertEqual(told[0], 0, (first, then, told))
+                        self.assertEqual(self.call("drop", "--fusion", fusion, text=text)[0], 0)
+                        self.assertEqual((self.files(), self.folders()), left)
+
+    def test_the_folder_of_the_arrays_stays(self):
+        self.assertEqual(self.call("load", text=array("x", [1, 2, 3], 2))[0], 0)
+        self.assertEqual(self.call("run", text=negated("x", "y"))[0], 0)
+        shutil.rmtree(self.path("x"))
+        os.mkdir(self.path("of another"))
+        self.assertEqual(self.call("drop", text=negated("x", "y"))[0], 8)
+        self.assertEqual(self.call("load", text=array("x", [1, 2, 3], 2))[0], 0)
+        self.assertEqual(self.call("drop", text=negated("x", "y"))[0], 0)
+        self.assertEqual(sorted(os.listdir(self.dir)), ["of another", "x"])
+
+    def test_what_others_have_put_beside_stays(self):
+        self.assertEqual(self.call("load", text=array("x", [1, 2, 3], 2))[0], 0)
+        self.assertEqual(self.call("run", text=negated("x", "y"))[0], 0)
+        self.put("y/c/notes", b"of another")
+        self.assertEqual(self.call("drop", text=negated("x", "y"))[0], 0)
+        self.assertEqual(self.read("y/c/notes"), b"of another")
+
+    def test_a_folder_in_a_keys_place_is_no_value(self):
+        self.assertEqual(self.call("load", text=array("x", [1, 2, 3], 2))[0], 0)
+        os.makedirs(self.path("y/c/1"))
+        self.assertEqual(self.call("run", text=negated("x", "y"))[0], 0)
+        self.assertEqual(self.read("y/c/1")[:1], b"\xfd")
+        os.remove(self.path("x/c/1"))
+        self.put("x/c/1/notes", b"of another")
+        self.assertEqual(self.call("print", "x"), (0, "int8 shape [3] chunk [2]\n1 2 0"))
+        self.put("w/c/0/notes", b"of another")
+        self.assertEqual(self.call("load", text=array("w", [1], 1)), (16, "error 16 key=w/c/0"))
+        self.assertEqual(self.read("w/c/0/notes"), b"of another")
+
+
+@unittest.skipUnless(shutil.which("strace"), "no strace")
+class FailingCalls(InFolder):
+    """The system's calls fail by strace. A program that begins closes files too: those calls are left as they are."""
+
+    def traced(self, calls, *words, inject=None, text=b"", only=()):
+        trace = f"{self.outside}.trace"
+        front = ["strace", "-f", "-o", trace, *only, "-e", f"trace={calls}", *(("-e", f"inject={inject}") if inject else ())]
+        told = self.call(*words, text=text, front=front)
+        with open(trace, encoding="utf-8") as file:
+            return told, file.read().splitlines()
+
+    def closed_first(self, text, *options):
+        """How many files are closed before the first new one is made."""
+        told, lines = self.traced("close,openat", "load", *options, text=text)
+        self.assertEqual(told[0], 0)
+        shutil.rmtree(self.dir)
+        os.mkdir(self.dir)
+        made = next(at for at, line in enumerate(lines) if "O_EXCL" in line)
+        return sum(" close(" in line for line in lines[:made])
+
+    def test_an_error_at_closing_is_a_fault_with_and_without_syncs(self):
+        text = array("x", [1, 2, 3], 2)
+        for options in (("--sync", "0"), ("--sync", "1")):
+            first = self.closed_first(text, *options) + 1
+            told, _ = self.traced("close", "load", *options, inject=f"close:error=EDQUOT:when={first}+", text=text)
+            self.assertEqual((told, self.files()), ((16, "error 16 key=x/c/0"), []))
+            # One such error, and the put is tried again.
+            told, _ = self.traced("close", "load", *options, inject=f"close:error=EDQUOT:when={first}", text=text)
+            self.assertEqual((told[0], self.read("x/c/0"), self.read("x/c/1")[:1]), (0, b"\1\2", b"\3"))
+            shutil.rmtree(self.path("x"))
+
+    def test_a_read_and_a_write_that_are_interrupted_go_on(self):
+        for call, path in (("read", "in"), ("write", "out")):
+            with open(f"{self.outside}.in", "wb") as file:
+                file.write(array("x", [1, 2, 3], 2))
+            path, counted = f"{self.outside}.{path}", f"{self.outside}.trace"
+            front = ["strace", "-f", "-o", counted, "-P", path, "-e", f"trace={call}", "-e", f"inject={call}:error=EINTR:when=1..5"]
+            with open(f"{self.outside}.in", "rb") as text, open(f"{self.outside}.out", "wb") as out:
+                ended = subprocess.run([*front, PROGRAM, self.dir, "load"], stdin=text, stdout=out, timeout=SECONDS, check=False)
+            with open(f"{self.outside}.out", "rb") as file:
+                self.assertEqual((ended.returncode, file.read()), (0, b"ok elements=3 chunks=2\n"), call)
+            with open(counted, encoding="utf-8") as file:
+                self.assertEqual(file.read().count("INJECTED"), 5)
+            shutil.rmtree(self.path("x"))
+
+    def test_folders_that_are_there_are_not_made(self):
+        self.assertEqual(self.call("load", text=array("x", [1, 2, 3], 2))[0], 0)
+        told, lines = self.traced("mkdir", "load", text=array("z", [1, 2, 3], 2))
+        self.assertEqual(told[0], 0)
+        made = [line.split('"')[1] for line in lines if "mkdir(" in line]
+        self.assertEqual(made, [self.path("z/c"), self.path("z"), self.path("z/c")])
+
+
 if __name__ == "__main__":
     if sys.argv[1:2] == ["--program"]:
         PROGRAM = os.path.abspath(sys.argv[2])

@@ -2,9 +2,12 @@
 ghost use Rattle.std.specs.Prelude.{◌≡◌, None};
 
 use cu_store::{Failed, Sink, Source};
-use std::io::{Input, Print, Read};
+use std::io::{ErrorKind, Input, Print, Read};
 
-/// Standard input as a source. Each error of the system is a fault.
+/// How often a call is tried again that a signal has interrupted.
+const TRIES: u32 = 100;
+
+/// Standard input as a source. Each error of the system is a fault, but for an interrupted read, which is tried again.
 #[derive(Drop)]
 pub struct StdSource<H: Input> {
     reader: H::Reader,
@@ -29,17 +32,20 @@ impl<H: Input> Source for StdSource<H> {
     ghost faults = { λ s. s.faults };
 
     fn read(&mut self, buf: &mut [u8]) -> Result<usize, Failed> {
-        match self.reader.read(buf) {
-            Ok(count) => Ok(count),
-            Err(_) => {
-                self.faults = self.faults.saturating_add(1);
-                Err(Failed)
+        for _ in 0..TRIES {
+            match self.reader.read(buf) {
+                Ok(count) => return Ok(count),
+                Err(error) if error.kind() == ErrorKind::Interrupted => {}
+                Err(_) => break,
             }
         }
+        self.faults = self.faults.saturating_add(1);
+        Err(Failed)
     }
 }
 
-/// Standard output as a sink. Each error of the system is a fault, and so is a write that takes nothing.
+/// Standard output as a sink. Each error of the system is a fault, and so is a write that takes nothing. An interrupted write is
+/// tried again.
 #[derive(Drop)]
 pub struct StdSink<H: Print + Drop> {
     rt: H,
@@ -61,12 +67,14 @@ impl<H: Print + Drop> Sink for StdSink<H> {
     ghost faults = { λ s. s.faults };
 
     fn write(&mut self, piece: &[u8]) -> Result<usize, Failed> {
-        match self.rt.write_some(piece) {
-            Ok(count) if count > 0 => Ok(count),
-            _ => {
-                self.faults = self.faults.saturating_add(1);
-                Err(Failed)
+        for _ in 0..TRIES {
+            match self.rt.write_some(piece) {
+                Ok(count) if count > 0 => return Ok(count),
+                Err(error) if error.kind() == ErrorKind::Interrupted => {}
+                _ => break,
             }
         }
+        self.faults = self.faults.saturating_add(1);
+        Err(Failed)
     }
 }

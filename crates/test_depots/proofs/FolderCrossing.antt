@@ -1,43 +1,38 @@
 -- The yard of a folder may be shared among threads where its runtime may, and its passes may go to another thread.
-use denote.Builtin.{u64, bool}
+use denote.Builtin.{u64}
 use denote.RattleType.{RattleType}
 use denote.Param.Send.{IsSend, IsSync, sendable, recorded_send, recorded_sync, struct_send, struct_sync}
 use denote.Struct.Declared.{shape}
 use Rattle.std.proofs.Crossing.{crosses}
-use Rattle.std.proofs.alloc.Global.TheSendSync as heap
-use Rattle.std.specs.contracts.alloc.Global as Heap
-use Rattle.std.specs.contracts.impls.GlobalAllocator.TheImpl.{ghosts}
-use Rattle.std.specs.contracts.snapshot.Snapshot as Snapshot
-use Rattle.std.specs.contracts.string.String as String
-use Rattle.cu_store.specs.contracts.promise.Promise as Promise
+use Rattle.cu_dir.proofs.Crossing.{tree_sync, folder_sync, hand_send, known_send}
 use Rattle.cu_dir.proofs.keys.Keys.TheSendSync as keys
+use Rattle.cu_dir.specs.contracts.folder.Folder as Folder
+use Rattle.cu_dir.specs.contracts.folder.FolderHand as FolderHand
 use Rattle.cu_dir.specs.contracts.host.HostTree as HostTree
-use Rattle.cu_dir.specs.contracts.yard.DirPass as DirPass
-use Rattle.cu_dir.specs.contracts.yard.DirYard as DirYard
+use Rattle.cu_dir.specs.contracts.yard.TreePass as TreePass
+use Rattle.cu_dir.specs.contracts.yard.TreeYard as TreeYard
 
-text_sync : IsSync (String.the_field Heap.the_row ghosts).row
-text_sync = search (sendable, crosses) depth 20
+-- a folder of a tree, in common
+abbrev pub common : RattleType → RattleType
+common T = Folder.the_row T
 
-promise_sync : IsSync (Snapshot.the_row Promise.the_row)
-promise_sync = search crosses
+-- what a worker has of it
+abbrev pub hand : RattleType → RattleType
+hand T = FolderHand.the_row T
 
-flag_sync : IsSync bool
-flag_sync = search sendable depth 20
+tree_yard_sync : (C : RattleType) → IsSync C → IsSync (TreeYard.the_row C)
+tree_yard_sync C common = recorded_sync (TreeYard.the_field C).row _ _ (TreeYard.the_type C).to_one
+    (struct_sync (shape (TreeYard.the_type C)) (common, (keys.the_sync, (search (crosses, sendable) depth 20, tt))))
 
-tree_sync : (H File Dir : RattleType) → IsSync H → IsSync (HostTree.the_field H File Dir).row
-tree_sync H File Dir host = struct_sync (shape (HostTree.the_type H File Dir)) (host, (flag_sync, tt))
-
-pub yard_sync : (H File Dir : RattleType) → IsSync H → IsSync (DirYard.the_row H File Dir)
-yard_sync H File Dir host = recorded_sync (DirYard.the_field H File Dir).row _ _ (DirYard.the_type H File Dir).to_one
-    (struct_sync (shape (DirYard.the_type H File Dir))
-    (tree_sync H File Dir host, (heap.the_field_sync, (text_sync, (keys.the_sync, (promise_sync, (search (crosses, sendable) depth 20, tt)))))))
+pub yard_sync : (H File Dir : RattleType) → IsSync H → IsSync (TreeYard.the_row (common (HostTree.the_row H File Dir)))
+yard_sync H File Dir host = tree_yard_sync (common (HostTree.the_row H File Dir)) (folder_sync (HostTree.the_row H File Dir) (tree_sync H File Dir host))
 
 count_send : IsSend u64
 count_send = search sendable depth 20
 
-promise_send : IsSend (Snapshot.the_row (Snapshot.the_row Promise.the_row))
-promise_send = search crosses
+tree_pass_send : (C H : RattleType) → IsSend H → IsSend (TreePass.the_row C H)
+tree_pass_send C H hand = recorded_send (TreePass.the_field C H).row _ _ (TreePass.the_type C H).to_one
+    (struct_send (shape (TreePass.the_type C H)) (hand, (count_send, (count_send, (count_send, (known_send C, tt))))))
 
-pub pass_send : IsSend DirPass.the_row
-pass_send = recorded_send DirPass.the_field.row _ _ DirPass.the_type.to_one
-    (struct_send (shape DirPass.the_type) (count_send, (count_send, (count_send, (promise_send, tt)))))
+pub pass_send : (T : RattleType) → IsSend (TreePass.the_row (common T) (hand T))
+pass_send T = tree_pass_send (common T) (hand T) (hand_send T)
