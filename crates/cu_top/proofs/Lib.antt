@@ -22,6 +22,8 @@ mod DropLemmas
 mod FewFailures
 mod HeldLemmas
 mod InnerNumbers
+mod KeptLemmas
+mod KeptResult
 mod LawLemmas
 mod PartServed
 mod PartsLemmas
@@ -32,6 +34,8 @@ mod RecordExample
 mod RecordLemmas
 mod RecordVersions
 mod ReopenLemmas
+mod ResultLemmas
+mod ResultTold
 mod ResumeServed
 mod RunLemmas
 mod SampleArrays
