@@ -98,7 +98,7 @@ module _ (laws : TextLaws) (lack : Bool) (o : Options) (old new : Scene) (text :
     (has : old.source.told ≡ Some text) (told_now : new.depot.held ≡ Some now) where
   pub went_on : ResumeAnswered lack o old new Done → HoldsResult text entry now
   went_on answered =
-      let (said, read, (job, resumed, (holds, counted))) = answered.done refl in
+      let (said, read, (job, resumed, (holds, counted))) = answered.answers in
       let again = resumed.reopened in
       let (mid, told_mid) = still_told text first old.depot leaves settled entry told in
       let form = (laws.form text job.expr).0 (said_so text old.source.told said new.source.told has read ∙ again.accepted.said) in

@@ -189,7 +189,7 @@ module _ (laws : TextLaws) (lack : Bool) (o : Options) (old new : Scene) (text :
       → StartsFrom old.source.told old.depot text entry → new.depot.held ≡ Some now
       → HoldsResult text entry now
   run_result answered start told_now =
-      let (said, read, (job, started, (holds, counted))) = answered.done refl in
+      let (said, read, (job, started, (holds, counted))) = answered.answers in
       let c = case o said old new in
       let quiet = quiet_at_rest (job_run c job) (env_of c job entry) entry old.depot.late start.settled in
       let inputs = all_stored laws old.source.told old.depot text entry start job.inputs.items
@@ -201,7 +201,7 @@ module _ (laws : TextLaws) (lack : Bool) (o : Options) (old new : Scene) (text :
       → StartsFrom old.source.told old.depot text entry → new.depot.held ≡ Some now
       → HoldsResult text entry now
   resume_result answered start told_now =
-      let (said, read, (job, resumed, (holds, counted))) = answered.done refl in
+      let (said, read, (job, resumed, (holds, counted))) = answered.answers in
       let again = resumed.reopened in
       let inputs = all_stored laws old.source.told old.depot text entry start job.inputs.items
       again.accepted.inputs in
@@ -213,7 +213,7 @@ module _ (laws : TextLaws) (retries : ℕ) (old new : Scene) (text : List ℕ) (
       → StartsFrom old.source.told old.depot text entry → HoldsResult text entry entry
   check_result answered start =
       let (said, read, (job, output, accepted, was, (like, few, (there, wrote)))) =
-      answered.equal refl in
+      answered.answers.ends in
       let still = λ key bytes k among.
       absurd (none_among old.depot.late key bytes start.settled among) in
       let (all, equal) = there entry start.depot_holds still in

@@ -40,12 +40,15 @@ use std::thread::Threads;
 /// the array that it makes in the depot, and writes the report to the sink. `resume` goes on with a
 /// run that was stopped, and `drop` removes all keys of a plan. `begin` does what `run` does before
 /// its first task, and `part` runs some tasks of a plan that was begun. `plan` reads an expression and
-/// writes what its plan does; it stores nothing. `load` reads an array and stores it.
+/// prints the operations of its plan whose results are stored; it stores nothing. `load` reads an
+/// array and stores it.
 /// `check` reads an expression from the source and compares its stored output with what it means.
 /// `print` writes a stored array to the sink. `demo` stores two inputs that it makes, computes an
 /// expression over them, and writes its one element and the report.
 ///
-/// What each command answers, line by line, stands in `specs/Answered.antt`.
+/// What 0 means stands in `specs/Result.antt`, and what each command answers in `specs/Answered.antt`,
+/// whose tables have a line for each answer. 10 names a task and 16 a key that may be at fault: so
+/// many calls failed as it is tried, by the count of the depot's faults.
 pub fn top<H: Threads + Wait + Sync, R: Source, W: Sink, D: Share, G: Gate>(
     rt: &H,
     alloc: Global,

@@ -19,11 +19,11 @@ returns c =
       others = c.names_law.ensures.others;
     } in
     record {
-      runs = λ lack o old new text status answered has. run_leaves laws o old new text has lack status answered.runs;
-      begins = λ o old new text status answered has. begin_leaves laws o old new text has status answered.begins;
-      parts = λ o q old new text status answered has. part_leaves laws o old new text has q status answered.parts;
-      resumes = λ lack o old new text status answered has. resume_leaves laws o old new text has lack status answered.resumes;
-      drops = λ o old new text status answered has. drop_leaves laws o old new text has status answered.drops;
+      runs = λ lack o old new text status answered has. run_leaves laws o old new text has lack status answered.answers;
+      begins = λ o old new text status answered has. begin_leaves laws o old new text has status answered.answers;
+      parts = λ o q old new text status answered has. part_leaves laws o old new text has q status answered.answers;
+      resumes = λ lack o old new text status answered has. resume_leaves laws o old new text has lack status answered.answers;
+      drops = λ o old new text status answered has. drop_leaves laws o old new text has status answered.answers;
       together = λ text a b k first second. stepped_then first second;
       held = λ text key a b entry now leaves settled told told_now input. still_held text a b leaves settled entry now told told_now key input;
       settled = λ text a b leaves settled. still_settled text a b leaves settled;
