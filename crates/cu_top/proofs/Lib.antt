@@ -39,6 +39,7 @@ mod ResultTold
 mod ResumeServed
 mod RunLemmas
 mod SampleArrays
+mod SampleFused
 mod SampleLemmas
 mod SamplePart
 mod SampleResume
