@@ -4,8 +4,8 @@
 usage: tools/test_scripts.py [TEST..]     as tools/test_scripts.py Folder
 
 What needs the program runs over the one that the gate built, and is left out where there is none. The files of NumPy are read and
-written by NumPy too where it can be imported. test_calls.py has the tests of calls, test_hostile.py those of strange folders, and test_loops.py that
-of the loops beside which a day's work is measured.
+written by NumPy too where it can be imported. test_calls.py has the tests of calls, test_contract.py those of the size of the
+contract, test_hostile.py those of strange folders, and test_loops.py that of the loops beside which a day's work is measured.
 """
 import array
 import concurrent.futures
@@ -25,6 +25,7 @@ import unittest
 sys.dont_write_bytecode = True
 from test_base import TOP, InFolder, files_in, put, rules, run
 from test_calls import *  # noqa: F403
+from test_contract import *  # noqa: F403
 from test_documents import *  # noqa: F403
 from test_hostile import *  # noqa: F403
 from test_loops import *  # noqa: F403

@@ -19,6 +19,7 @@ use Rattle.cu_num.specs.Dtype.{size_of, InRange}
 use Rattle.cu_num.specs.declared.types.Dtype.{Dtype}
 use Rattle.cu_num.specs.declared.layout.Endian.TheVariants.{Little}
 use Rattle.cu_num.specs.declared.types.Dtype.TheVariants.{Bool, Int8, Int16, Int32, Int64, Uint8, Uint16, Uint32, Uint64}
+use Rattle.cu_reduce.proofs.Folding.{zero_in_range}
 use Rattle.cu_shape.specs.Index.{product}
 use Rattle.cu_grid.specs.Counts.{at_least_one}
 use Rattle.cu_grid.specs.Grid.{RegularGrid}
@@ -149,17 +150,6 @@ few_sizes_at name d sizes h =
 pub no_fault : (o : Option GridFault) → is_none o ≡ true → o ≡ None
 no_fault None h = refl
 no_fault (Some f) h = cc
-
-zero_in_range : (t : Dtype) → InRange t (pos 0)
-zero_in_range Bool = (le_z_yes tt, le_z_yes tt)
-zero_in_range Int8 = (le_z_yes tt, le_z_yes tt)
-zero_in_range Int16 = (le_z_yes tt, le_z_yes tt)
-zero_in_range Int32 = (le_z_yes tt, le_z_yes tt)
-zero_in_range Int64 = (le_z_yes tt, le_z_yes tt)
-zero_in_range Uint8 = (le_z_yes tt, le_z_yes tt)
-zero_in_range Uint16 = (le_z_yes tt, le_z_yes tt)
-zero_in_range Uint32 = (le_z_yes tt, le_z_yes tt)
-zero_in_range Uint64 = (le_z_yes tt, le_z_yes tt)
 
 layout_storable : (t : Dtype) (shape chunk : List ℕ) → length shape ≤ 6 → first_fault shape chunk (size_of t) ≡ None → IsStorable (layout_given t (record { shape = shape; chunk = chunk }))
 layout_storable t shape chunk few fits = record { axes = few; grid = fits; fill = zero_in_range t; endian = λ _. refl }

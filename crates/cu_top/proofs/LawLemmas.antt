@@ -34,14 +34,20 @@ module _ (c : RunCase) where
   put_command job step = of_step (job_run c job) c.old.depot c.new.depot (stepped_wider (λ key value change. inl change) step)
 
   started_command : (job : Job) → IsStarted c job → IsOfPlan c
-  started_command job started = inr (job, started.accepted, put_command job started.step)
+  started_command job started =
+      inr (job, started.accepted, (started.planned, (started.own, put_command job started.step)))
 
   resumed_command : (job : Job) → IsResumed c job → IsOfPlan c
-  resumed_command job resumed = inr (job, resumed.reopened.accepted, put_command job resumed.step)
+  resumed_command job resumed =
+      let again = resumed.reopened in
+      inr (job, again.accepted, (again.planned, (again.own, put_command job resumed.step)))
 
   dropped_command : (job : Job) → IsDropping c job → IsOfPlan c
   dropped_command job dropping =
-      inr (job, dropping.reopened.accepted, of_step (job_run c job) c.old.depot c.new.depot (stepped_wider (removal_within c job dropping.reopened.sound c.old.depot) dropping.step))
+      let again = dropping.reopened in
+      let removed = stepped_wider (removal_within c job again.sound c.old.depot) dropping.step in
+      let command = of_step (job_run c job) c.old.depot c.new.depot removed in
+      inr (job, again.accepted, (again.planned, (again.own, command)))
 
   refused_command : (status : Status) → WasRefused c status → IsOfPlan c
   refused_command (BadExpr code node) why = inl why.0
@@ -109,12 +115,12 @@ module _ (c : RunCase) where
   parted_command : (q : Part) (job : Job) → IsPartRun c job q → IsOfPlan c
   parted_command q job parted =
       let step = parted.step in
-      inr (
-        job,
-        parted.reopened.accepted,
-        put_command job (stepped (change_alone (job_run c job) c.old.depot 0 step.calls c.old.depot c.new.depot
-            (steps_wider (parts_run (job_run c job).plan parted.reopened.sound q parted.part c.old.depot) (omega arith) (omega arith) step.step))),
-      )
+      let again = parted.reopened in
+      let puts = steps_wider (parts_run (job_run c job).plan again.sound q parted.part c.old.depot)
+      (omega arith) (omega arith) step.step in
+      let command = put_command job
+      (stepped (change_alone (job_run c job) c.old.depot 0 step.calls c.old.depot c.new.depot puts)) in
+      inr (job, again.accepted, (again.planned, (again.own, command)))
 
   module _ (q : Part) where
     pub part_is_command : (status : Status) → WasParted c q status → IsOfPlan c

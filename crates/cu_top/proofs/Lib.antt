@@ -22,6 +22,8 @@ mod DropLemmas
 mod FewFailures
 mod HeldLemmas
 mod InnerNumbers
+mod KeptLemmas
+mod KeptResult
 mod LawLemmas
 mod PartServed
 mod PartsLemmas
@@ -32,9 +34,12 @@ mod RecordExample
 mod RecordLemmas
 mod RecordVersions
 mod ReopenLemmas
+mod ResultLemmas
+mod ResultTold
 mod ResumeServed
 mod RunLemmas
 mod SampleArrays
+mod SampleFused
 mod SampleLemmas
 mod SamplePart
 mod SampleResume

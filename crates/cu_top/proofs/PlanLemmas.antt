@@ -35,6 +35,7 @@ use Rattle.cu_store.specs.Steps.{Shown}
 use Rattle.cu_zarr.specs.Stored.{stored_element}
 use Rattle.cu_plan.specs.Plan.{merged_plan_of, HaveInputElements}
 use Rattle.cu_command.specs.declared.job.Job.{Job}
+use Rattle.cu_top.specs.Kept.{IsUsed}
 use Rattle.cu_top.specs.Prepare.{reads_array, HasNoOwnInput, IsLentWithin, HasPlan, out_layout}
 use Rattle.cu_top.specs.Run.{RunCase, plan_in, job_run, env_of, IsMeant}
 use Rattle.cu_check.specs.Elements.{used_element, elements_of}
@@ -55,13 +56,18 @@ within nodes k node at = elim ((slice_get_cases nodes k).1) [
   | inr (past, none) ↦ cc
 ]
 
--- where no node reads the array with the output's name, no live one does
+-- where no node reads the array with the output's name, each that is used has another
+pub used_differs : (e : Expression) (name : List ℕ) → HasNoOwnInput e → IsUsed e name → name ≢ e.store_as
+used_differs e name apart (node, (k, below, here), form) same =
+    let reads : reads_array e.store_as (get_or e.nodes k node).form ≡ true =
+    subst (λ (n : Node). reads_array e.store_as n.form ≡ true) (sym here) (own_name e.store_as name node.form form same) in
+    true≢false (sym (list_any_at (λ (n : Node). reads_array e.store_as n.form) e.nodes k node below reads) ∙ apart)
+
+-- and so has each that a live node uses
 pub differs : (e : Expression) → HasNoOwnInput e → OutputDiffers e
-differs e apart k name i same =
-    let below : k < length e.nodes = within e.nodes k i.node i.at in
-    let here : get_or e.nodes k i.node ≡ i.node = get_or_from_slice_get e.nodes k i.node i.node i.at in
-    true≢false (sym (list_any_at (λ (node : Node). reads_array e.store_as node.form) e.nodes k i.node below
-    (subst (λ (n : Node). reads_array e.store_as n.form ≡ true) (sym here) (own_name e.store_as name i.node.form i.form same))) ∙ apart)
+differs e apart k name i =
+    used_differs e name apart
+    (i.node, (k, within e.nodes k i.node i.at, get_or_from_slice_get e.nodes k i.node i.node i.at), i.form)
 
 -- ---- the output
 

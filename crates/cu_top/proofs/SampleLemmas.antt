@@ -104,10 +104,10 @@ module _ (recorded : Option (List ℕ)) where
   calm_zarray bytes (inl (key, same)) = absurd (apart (codes "x/.zarray") (codes "x/c/0") refl key)
   calm_zarray bytes (inr none) = absurd none
 
-  held_all : All (λ (i : InputInfo). StoresLayout (Some (sample_with recorded)) i.name i.layout) inputs
+  pub held_all : All (λ (i : InputInfo). StoresLayout (Some (sample_with recorded)) i.name i.layout) inputs
   held_all = All-cons (λ (i : InputInfo). StoresLayout (Some (sample_with recorded)) i.name i.layout) sample_input [] holds (All-nil (λ (i : InputInfo). StoresLayout (Some (sample_with recorded)) i.name i.layout))
 
-  calm_all : All (λ (i : InputInfo). AreCalmAt (shown_of_sample recorded) i.name) inputs
+  pub calm_all : All (λ (i : InputInfo). AreCalmAt (shown_of_sample recorded) i.name) inputs
   calm_all = All-cons (λ (i : InputInfo). AreCalmAt (shown_of_sample recorded) i.name) sample_input [] (calm_written, calm_zarray) (All-nil (λ (i : InputInfo). AreCalmAt (shown_of_sample recorded) i.name))
 
   pub typable : IsTypable (shown_of_sample recorded) sample_text
@@ -202,11 +202,11 @@ no_metadata key other false apart same = refl
 small : (i : ℕ) → i < 2 → All (λ j. j < 2 ^ 64) (i ∷ [])
 small i below = All-cons (λ j. j < 2 ^ 64) i [] (omega arith) (All-nil (λ j. j < 2 ^ 64))
 
-no_maker : ◌≡◌ {A = Option ℕ} (Some 0) None → ⊥
+pub no_maker : ◌≡◌ {A = Option ℕ} (Some 0) None → ⊥
 no_maker e = cc
 
 module _ (recorded : Option (List ℕ)) where
-  whole_at : (coord bytes : List ℕ) → IsCoordinate sample_layout.grid coord → sample_with recorded (chunk_key_of (codes "x") sample_layout.encoding coord) ≡ Some bytes → length bytes ≡ 10
+  pub whole_at : (coord bytes : List ℕ) → IsCoordinate sample_layout.grid coord → sample_with recorded (chunk_key_of (codes "x") sample_layout.encoding coord) ≡ Some bytes → length bytes ≡ 10
   whole_at [] bytes inside is = absurd inside
   whole_at (i ∷ []) bytes inside is =
       let differ = chunk_not_metadata (codes "x") sample_layout.encoding (i ∷ []) (small i inside.0) in

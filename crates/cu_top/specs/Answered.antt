@@ -1,6 +1,7 @@
--- What the call `top` answers: a record for each command, and in it a line for each answer, which
--- says what is so where this answer comes. An answer calls an operation by its number among those
--- whose results are stored, and so do the words of a part. This project's own rules.
+-- What the call `top` answers: a record for each command. Its table has a line for each answer, which
+-- says what is so where this answer comes: `Ran`, `WasResumed`, `WasBegun`, `WasParted`, `Dropped`,
+-- `Plans`, `DemoTells`, `Loaded`, `Checked` and `Printed`. An answer calls an operation by its number
+-- among those whose results are stored, and so do the words of a part. This project's own rules.
 use Rattle.std.specs.Prelude.{◌≡◌, ◌⊎◌, ℕ, ℤ, ◌+◌, Bool, List, Option, Some, Err}
 use Rattle.cu_check.specs.Check.{Checked, ChecksOnce, ChecksWithin, IsFoundEqual, IsUnequal}
 use Rattle.cu_check.specs.Check.{ReadsText}
@@ -58,59 +59,20 @@ pub record NothingFailed (old new : Scene) : Type 0 where
   pub sink : StoodStill old.sink.faults new.sink.faults
   pub depot : StoodStill old.depot.faults new.depot.faults
 
--- ---- what refuses a text, by `run`, `resume`, `drop` and `plan`; nothing is stored then
-
-pub record TextAnswered (o : Options) (old new : Scene) (status : Status) : Type 0 where
-  -- 3: it is no expression
-  pub bad_expr : (code node : ℕ) → status ≡ BadExpr code node
-      → CameToRun o old new (λ c. IsBadExpr c code node)
-  -- 4: the expression has no types
-  pub bad_type : (code node : ℕ) → status ≡ BadType code node
-      → CameToRun o old new (λ c. IsBadType c code node)
-  -- 5: a live node needs more than is allowed
-  pub over_memory : (node need allowed : ℕ) → status ≡ OverMemory node need allowed
-      → CameToRun o old new (λ c. HasNoPlan c (OverMemory node need allowed))
-  -- 6: the plan exceeds a limit
-  pub over_limit : (which count : ℕ) → status ≡ OverLimit which count
-      → CameToRun o old new (λ c. HasNoPlan c (OverLimit which count))
-  -- 7: the metadata of an input is refused
-  pub bad_meta : (name : List ℕ) (code : ℕ) → status ≡ BadMeta name code
-      → CameToRun o old new (λ c. IsRefused c name code)
-  -- 8: an input has none
-  pub no_array : (name : List ℕ) → status ≡ NoArray name
-      → CameToRun o old new (λ c. IsMissing c name)
-  -- 11: the source failed
-  pub read_fault : status ≡ ReadFault → IsReadFault old new
-  -- a text that is no expression is answered so, with its first fault, unless it wasn't read
-  pub refused_text : (text : List ℕ) (f : ExpressionFault) → old.source.told ≡ Some text
-      → expression_of text ≡ Err f → IsExpressionRefused f status
+-- A text that is no expression is answered so, with its first fault, unless it wasn't read or memory
+-- was wanted.
+abbrev pub RefusesText : Scene → Status → Type 0
+RefusesText old status = (text : List ℕ) (f : ExpressionFault) → old.source.told ≡ Some text
+    → expression_of text ≡ Err f → IsExpressionRefused f status
 
 -- ---- `run`
 
 pub record RunAnswered (lack : Bool) (o : Options) (old new : Scene) (status : Status)
     : Type 0 where
-  -- 0: the output is complete and means the expression, and the whole report was written
-  pub done : status ≡ Done → CameToRun o old new IsRunDone
-  -- 12: the same, but the sink failed
-  pub unreported : status ≡ WriteFault → CameToRun o old new IsUnreported
-  -- 10: this task failed as often as it is tried, and ended the run
-  pub task_failed : (op task : ℕ) → status ≡ TaskFailed op task
-      → CameToRun o old new (λ c. IsTaskFailed c op task)
-  -- 13: this chunk, which a task reads, has another length
-  pub bad_chunk : (key : List ℕ) (got want : ℕ) → status ≡ BadChunk key got want
-      → CameToRun o old new (λ c. IsBadInput c key got want)
-  -- 16: all calls for this key failed
-  pub depot_failed : (key : List ℕ) → status ≡ DepotFailed key
-      → CameToRun o old new (λ c. IsDepotFailed c key)
-  -- 9: this key is in the way
-  pub exists : (key : List ℕ) → status ≡ Exists key
-      → CameToRun o old new (λ c. IsBlocked c key)
-  -- 70: memory was wanted
-  pub no_memory : status ≡ NoMemory → IsShort lack o old new
-  -- 3 to 8, and 11
-  pub refused : TextAnswered o old new status
-  -- the table of all answers: no other comes
-  pub runs : RunTells lack o old new status
+  -- its table: what is so where this answer comes; no other comes
+  pub answers : RunTells lack o old new status
+  -- a text that is no expression is refused
+  pub refused_text : RefusesText old status
   -- nothing but the report is printed
   pub prints : PrintsOnly status old.sink.told new.sink.told
   -- where all is accepted and at rest and nothing fails, it is served: Done, or memory was wanted
@@ -126,31 +88,10 @@ pub record RunAnswered (lack : Bool) (o : Options) (old new : Scene) (status : S
 
 pub record ResumeAnswered (lack : Bool) (o : Options) (old new : Scene) (status : Status)
     : Type 0 where
-  -- 0: the output is complete and means the expression, and the whole report was written
-  pub done : status ≡ Done → CameToRun o old new IsResumedDone
-  -- 12: the same, but the sink failed
-  pub unreported : status ≡ WriteFault → CameToRun o old new IsResumedUnreported
-  -- 10: this task failed as often as it is tried, and ended the run
-  pub task_failed : (op task : ℕ) → status ≡ TaskFailed op task
-      → CameToRun o old new (λ c. IsResumedBroken c op task)
-  -- 13: this chunk, which a task reads, has another length
-  pub bad_chunk : (key : List ℕ) (got want : ℕ) → status ≡ BadChunk key got want
-      → CameToRun o old new (λ c. IsResumedBad c key got want)
-  -- 14: the record is another plan's
-  pub other_plan : (place : ℕ) → status ≡ OtherPlan place
-      → CameToRun o old new (λ c. IsOtherPlan c place)
-  -- 15: there was no record
-  pub no_plan : status ≡ NoPlan → CameToRun o old new HadNoRecord
-  -- 16: all calls for this key failed
-  pub depot_failed : (key : List ℕ) → status ≡ DepotFailed key
-      → CameToRun o old new (λ c. IsResumeFailed c key)
-  -- 70: memory was wanted
-  pub no_memory : status ≡ NoMemory
-      → AreSpared old new ⊎ CameToRun o old new (IsResumeShort lack)
-  -- 3 to 8, and 11
-  pub refused : TextAnswered o old new status
-  -- the table of all answers: no other comes
-  pub resumes : ResumeTells lack o old new status
+  -- its table: what is so where this answer comes; no other comes
+  pub answers : ResumeTells lack o old new status
+  -- a text that is no expression is refused
+  pub refused_text : RefusesText old status
   -- nothing but the report is printed
   pub prints : PrintsOnly status old.sink.told new.sink.told
   -- where the record of the text's job isn't held, nor a put of it late, nothing behind it comes
@@ -171,22 +112,10 @@ pub record ResumeAnswered (lack : Bool) (o : Options) (old new : Scene) (status 
 -- ---- `begin`
 
 pub record BeginAnswered (o : Options) (old new : Scene) (status : Status) : Type 0 where
-  -- 0: both texts are held, and the whole text of the plan was written
-  pub done : status ≡ Done → CameToRun o old new IsBegunDone
-  -- 12: the same, but the sink failed
-  pub unprinted : status ≡ WriteFault → CameToRun o old new IsBegunUnprinted
-  -- 16: all calls for this key failed
-  pub depot_failed : (key : List ℕ) → status ≡ DepotFailed key
-      → CameToRun o old new (λ c. IsBeginFailed c key)
-  -- 9: this key is in the way
-  pub exists : (key : List ℕ) → status ≡ Exists key
-      → CameToRun o old new (λ c. IsBlocked c key)
-  -- 70: memory was wanted
-  pub no_memory : status ≡ NoMemory → AreSpared old new ⊎ CameToRun o old new IsBeginShort
-  -- 3 to 8, and 11
-  pub refused : TextAnswered o old new status
-  -- the table of all answers: no other comes
-  pub begins : BeginTells o old new status
+  -- its table: what is so where this answer comes; no other comes
+  pub answers : BeginTells o old new status
+  -- a text that is no expression is refused
+  pub refused_text : RefusesText old status
   -- nothing but the plan is printed
   pub prints : PrintsOnly status old.sink.told new.sink.told
   -- where all is accepted, the way is free and nothing fails, it is served: Done, or memory was
@@ -202,37 +131,10 @@ pub record BeginAnswered (o : Options) (old new : Scene) (status : Status) : Typ
 -- ---- `part`
 
 pub record PartAnswered (o : Options) (q : Part) (old new : Scene) (status : Status) : Type 0 where
-  -- 0: each chunk of the part's tasks is held, and the whole report was written
-  pub done : status ≡ Done → CameToRun o old new (λ c. IsPartedDone c q)
-  -- 12: the same, but the sink failed
-  pub unreported : status ≡ WriteFault → CameToRun o old new (λ c. IsPartedUnreported c q)
-  -- 20: the plan hasn't these tasks
-  pub no_tasks : (op tasks : ℕ) → status ≡ NoTasks op tasks
-      → CameToRun o old new (λ c. HasNoTasks c q op tasks)
-  -- 21: this task was to start, and lacks a made chunk that it reads
-  pub not_ready : (op task : ℕ) → status ≡ NotReady op task
-      → CameToRun o old new (λ c. IsTooEarly c q op task)
-  -- 10: this task was started and failed as often as it is tried
-  pub task_failed : (op task : ℕ) → status ≡ TaskFailed op task
-      → CameToRun o old new (λ c. IsPartedBroken c q op task)
-  -- 13: this chunk, which a task reads that was started, has another length
-  pub bad_chunk : (key : List ℕ) (got want : ℕ) → status ≡ BadChunk key got want
-      → CameToRun o old new (λ c. IsPartedBad c q key got want)
-  -- 14: the record is another plan's
-  pub other_plan : (place : ℕ) → status ≡ OtherPlan place
-      → CameToRun o old new (λ c. IsOtherPlan c place)
-  -- 15: there is no record
-  pub no_plan : status ≡ NoPlan → CameToRun o old new HasNoRecord
-  -- 16: all calls for this key failed
-  pub depot_failed : (key : List ℕ) → status ≡ DepotFailed key
-      → CameToRun o old new (λ c. IsPartFailed c q key)
-  -- 70: memory was wanted
-  pub no_memory : status ≡ NoMemory
-      → AreSpared old new ⊎ CameToRun o old new (λ c. IsPartShort c q)
-  -- 3 to 8, and 11
-  pub refused : TextAnswered o old new status
-  -- the table of all answers: no other comes
-  pub parts : PartTells o q old new status
+  -- its table: what is so where this answer comes; no other comes
+  pub answers : PartTells o q old new status
+  -- a text that is no expression is refused
+  pub refused_text : RefusesText old status
   -- nothing but the report is printed
   pub prints : PrintsOnly status old.sink.told new.sink.told
   -- where the record of the text's job isn't held, nor a put of it late, nothing behind it comes
@@ -259,24 +161,10 @@ pub record PartAnswered (o : Options) (q : Part) (old new : Scene) (status : Sta
 -- ---- `drop`
 
 pub record DropAnswered (o : Options) (old new : Scene) (status : Status) : Type 0 where
-  -- 0: all keys of the plan are gone, and the whole report was written
-  pub done : status ≡ Done → CameToRun o old new IsDropped
-  -- 12: the same, but the sink failed
-  pub unreported : status ≡ WriteFault → CameToRun o old new IsDroppedUnreported
-  -- 14: the record is another plan's
-  pub other_plan : (place : ℕ) → status ≡ OtherPlan place
-      → CameToRun o old new (λ c. IsOtherPlan c place)
-  -- 15: there was no record, or a node reads the output
-  pub no_plan : status ≡ NoPlan → CameToRun o old new HasNoRecord
-  -- 16: all calls for this key failed
-  pub depot_failed : (key : List ℕ) → status ≡ DepotFailed key
-      → CameToRun o old new (λ c. IsDropFailed c key)
-  -- 70: memory was wanted
-  pub no_memory : status ≡ NoMemory → AreSpared old new ⊎ CameToRun o old new IsDropShort
-  -- 3 to 8, and 11
-  pub refused : TextAnswered o old new status
-  -- the table of all answers: no other comes
-  pub drops : DropTells o old new status
+  -- its table: what is so where this answer comes; no other comes
+  pub answers : DropTells o old new status
+  -- a text that is no expression is refused
+  pub refused_text : RefusesText old status
   -- nothing but the report is printed
   pub prints : PrintsOnly status old.sink.told new.sink.told
   -- where the record of the text's job isn't held, nor a put of it late, nothing behind it comes
@@ -290,17 +178,10 @@ pub record DropAnswered (o : Options) (old new : Scene) (status : Status) : Type
 -- ---- `plan`
 
 pub record PlanAnswered (o : Options) (old new : Scene) (status : Status) : Type 0 where
-  -- 0: the whole text of the plan was written
-  pub planned : status ≡ Done → CameToRun o old new IsPrinted
-  -- 12: the same, but the sink failed
-  pub unprinted : status ≡ WriteFault → CameToRun o old new IsUnprinted
-  -- 16: all calls for the metadata of an input failed
-  pub depot_failed : (key : List ℕ) → status ≡ DepotFailed key
-      → CameToRun o old new (λ c. HasNoJob c (fault.DepotFailed key))
-  -- 3 to 8, and 11
-  pub refused : TextAnswered o old new status
-  -- the table of all answers: no other comes
-  pub plans : PlanTells o old new status
+  -- its table: what is so where this answer comes; no other comes
+  pub answers : PlanTells o old new status
+  -- a text that is no expression is refused
+  pub refused_text : RefusesText old status
   -- nothing is stored
   pub spared : AreSpared old new
   -- nothing but the plan is printed
@@ -317,32 +198,8 @@ pub record PlanAnswered (o : Options) (old new : Scene) (status : Status) : Type
 
 pub record DemoAnswered (lack : Bool) (size : ℕ) (o : Options) (old new : Scene) (status : Status)
     : Type 0 where
-  -- 0: the output is complete and means the expression, and both lines were written
-  pub demonstrated : status ≡ Done → IsDemoDone (demo_between size o old new)
-  -- 12: the same, but the sink failed
-  pub unprinted : status ≡ WriteFault → IsDemoUnprinted (demo_between size o old new)
-  -- 5: a live node needs more than is allowed
-  pub over_memory : (node need allowed : ℕ) → status ≡ OverMemory node need allowed
-      → IsDemoUnplanned (demo_between size o old new) (OverMemory node need allowed)
-  -- 6: the plan exceeds a limit
-  pub over_limit : (which count : ℕ) → status ≡ OverLimit which count
-      → IsDemoUnplanned (demo_between size o old new) (OverLimit which count)
-  -- 9: this key is in the way
-  pub exists : (key : List ℕ) → status ≡ Exists key
-      → IsDemoAsked (demo_between size o old new) (Exists key)
-  -- 10: this task failed as often as it is tried, and ended the run
-  pub task_failed : (op task : ℕ) → status ≡ TaskFailed op task
-      → IsDemoTaskFailed lack (demo_between size o old new) op task
-  -- 13: only where the depot tells no contents
-  pub bad_chunk : (key : List ℕ) (got want : ℕ) → status ≡ BadChunk key got want
-      → IsDemoBadChunk lack (demo_between size o old new) key got want
-  -- 16: all calls for this key failed
-  pub depot_failed : (key : List ℕ) → status ≡ DepotFailed key
-      → IsDemoKeyFailed lack (demo_between size o old new) key
-  -- 70: memory was wanted
-  pub no_memory : status ≡ NoMemory → IsDemoShort lack (demo_between size o old new)
-  -- the table of all answers: no other comes
-  pub demos : DemoTells lack (demo_between size o old new) status
+  -- its table: what is so where this answer comes; no other comes
+  pub answers : DemoTells lack (demo_between size o old new) status
   -- nothing is read of the source
   pub kept : new.source.told ≡ old.source.told
   -- where its plan is accepted, nothing is in the way and nothing fails, it is served
@@ -357,8 +214,8 @@ pub record DemoAnswered (lack : Bool) (size : ℕ) (o : Options) (old new : Scen
 -- ---- `load`, `check` and `print`, whose tables stand in crates of their own, a line an answer
 
 pub record LoadAnswered (retries : ℕ) (old new : Scene) (status : Status) : Type 0 where
-  -- the table of all answers: no other comes
-  pub loads : Loaded retries old.source new.source (seen_in old) (seen_in new) status
+  -- its table: what is so where this answer comes; no other comes
+  pub answers : Loaded retries old.source new.source (seen_in old) (seen_in new) status
   -- how many calls of the depot it makes at most
   pub calls : LoadsWithin retries old.source.told new.source.told old.depot new.depot
   -- one call for each key at most, and beyond these no more than failed
@@ -367,14 +224,8 @@ pub record LoadAnswered (retries : ℕ) (old new : Scene) (status : Status) : Ty
   pub few_failures : FewFailed retries old.depot new.depot → IsNotGivenUp status
 
 pub record CheckAnswered (retries : ℕ) (old new : Scene) (status : Status) : Type 0 where
-  -- 0: each stored element is what the expression means
-  pub equal : status ≡ Done
-      → ReadsText old.source new.source (λ text. IsFoundEqual text (seen_in old) (seen_in new))
-  -- 17: the elements at this place differ, the first that do
-  pub unequal : (place : ℕ) (stored plain : ℤ) → status ≡ Unequal place stored plain
-      → ReadsText old.source new.source (λ text. IsUnequal text old.depot place stored plain)
-  -- the table of all answers: no other comes
-  pub checks : Checked retries old.source new.source (seen_in old) (seen_in new) status
+  -- its table: what is so where this answer comes; no other comes
+  pub answers : Checked retries old.source new.source (seen_in old) (seen_in new) status
   -- how many calls of the depot it makes at most
   pub calls : ChecksWithin (retries + 1) old.source new.source old.depot new.depot
   -- one call for each key at most, and beyond these no more than failed
@@ -384,8 +235,8 @@ pub record CheckAnswered (retries : ℕ) (old new : Scene) (status : Status) : T
 
 pub record PrintAnswered (name : List ℕ) (retries : ℕ) (old new : Scene) (status : Status)
     : Type 0 where
-  -- the table of all answers: no other comes
-  pub prints_array : Printed retries name (seen_in old) (seen_in new) status
+  -- its table: what is so where this answer comes; no other comes
+  pub answers : Printed retries name (seen_in old) (seen_in new) status
   -- nothing is read of the source
   pub kept : new.source.told ≡ old.source.told
   -- how many calls of the depot it makes at most

@@ -54,8 +54,9 @@ abbrev pub IsBegunUnprinted : RunCase → Type 0
 IsBegunUnprinted c = Rose 1 c.old.sink.faults c.new.sink.faults × BegunRun c (λ job. HoldsBoth c job
     × ((n : ℕ) × (n ≤ length (begun_text (plan_in c job))) × WroteTo c (begun_text (plan_in c job)) n))
 
--- 16: all calls for this key failed. Nothing was stored, and the key is that of an input's metadata in
--- its turn, or one of the plan's, before which the others were found absent; or it is that of a text.
+-- 16: as many calls failed as are made for one key, by the count of faults, and this key may be at
+-- fault. Nothing was stored, and the key is that of an input's metadata in its turn, or one of the
+-- plan's, before which the others were found absent; or it is that of a text.
 abbrev pub IsBeginFailed : RunCase → List ℕ → Type 0
 IsBeginFailed c key = Rose (c.options.retries + 1) c.old.depot.faults c.new.depot.faults
     × (HasNoJob c (fault.DepotFailed key)
@@ -68,11 +69,17 @@ IsBeginShort c = IsSpared c ⊎ BegunRun c (λ job. Unit {0})
 
 -- what a run that is begun answers, from the text on
 abbrev pub WasBegun : RunCase → Status → Type 0
+-- 0: both texts are held, and the whole text of the plan was written
 WasBegun c Done = IsBegunDone c
+-- 12: the same, but the sink failed
 WasBegun c WriteFault = IsBegunUnprinted c
+-- 16: this key may be at fault. As many calls failed as are made for one key, by the count of faults
 WasBegun c (DepotFailed key) = IsBeginFailed c key
+-- 9: this key is in the way
 WasBegun c (Exists key) = IsBlocked c key
+-- 70: memory was wanted
 WasBegun c NoMemory = IsBeginShort c
+-- 3 to 8
 WasBegun c status = WasRefused c status
 
 -- what the command `begin` answers

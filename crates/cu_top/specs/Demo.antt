@@ -282,8 +282,8 @@ IsDemoBadChunk lack c key got want = (c.new.depot.held ≡ None) × (IsDemoStopp
 abbrev pub IsDemoTaskFailed : Bool → DemoCase → ℕ → ℕ → Type 0
 IsDemoTaskFailed lack c op task = KeepsInputs c × IsDemoStopped lack c (TaskFailed op task)
 
--- 16: all calls for this key failed: where the keys were asked for, where the inputs were stored, in
--- the run, or where the chunk of the output was read
+-- 16: this key may be at fault, as many calls failed as are made for one: where the keys were asked
+-- for, where the inputs were stored, in the run, or where the chunk of the output was read
 abbrev pub IsDemoKeyFailed : Bool → DemoCase → List ℕ → Type 0
 IsDemoKeyFailed lack c key = IsDemoAsked c (DepotFailed key) ⊎ IsDemoUnstored c (DepotFailed key)
     ⊎ IsDemoStopped lack c (DepotFailed key) ⊎ IsDemoUnread c (DepotFailed key)
@@ -295,14 +295,24 @@ IsDemoShort lack c = WroteNothing c.old c.new ⊎ IsDemoUnstored c NoMemory
 
 -- what the command answers, of a depot whose yards lack memory or don't
 abbrev pub DemoTells : Bool → DemoCase → Status → Type 0
+-- 0: the output is complete and means the expression, and both lines were written
 DemoTells lack c Done = IsDemoDone c
+-- 12: the same, but the sink failed
 DemoTells lack c WriteFault = IsDemoUnprinted c
+-- 5: a live node needs more than is allowed
 DemoTells lack c (OverMemory node need allowed) = IsDemoUnplanned c (OverMemory node need allowed)
+-- 6: the plan exceeds a limit
 DemoTells lack c (OverLimit which count) = IsDemoUnplanned c (OverLimit which count)
+-- 9: this key is in the way
 DemoTells lack c (Exists key) = IsDemoAsked c (Exists key)
+-- 10: this task may be at fault. By the history of the run it failed as often as it is tried, and
+-- ended the run; and the faults were counted
 DemoTells lack c (TaskFailed op task) = IsDemoTaskFailed lack c op task
+-- 13: only where the depot tells no contents
 DemoTells lack c (BadChunk key got want) = IsDemoBadChunk lack c key got want
+-- 16: this key may be at fault. As many calls failed as are made for one key, by the count of faults
 DemoTells lack c (DepotFailed key) = IsDemoKeyFailed lack c key
+-- 70: memory was wanted
 DemoTells lack c NoMemory = IsDemoShort lack c
 DemoTells lack c status = ⊥
 

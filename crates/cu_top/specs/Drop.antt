@@ -76,8 +76,9 @@ abbrev pub IsDroppedUnreported : RunCase → Type 0
 IsDroppedUnreported c = Rose 1 c.old.sink.faults c.new.sink.faults × Dropping c (λ job. AreGone c job
     × ((n : ℕ) × (n ≤ length (removal_line (plan_in c job))) × WroteTo c (removal_line (plan_in c job)) n))
 
--- 16: all calls failed for the metadata of an input in its turn or for the record, and nothing was
--- changed; or for a key that was to be removed
+-- 16: as many calls failed as are made for one key, by the count of faults, and this key may be at
+-- fault. It is that of an input's metadata in its turn or the record's, and nothing was changed; or
+-- it was to be removed.
 abbrev pub IsDropFailed : RunCase → List ℕ → Type 0
 IsDropFailed c key = IsUnasked c key
     ⊎ (Rose (c.options.retries + 1) c.old.depot.faults c.new.depot.faults × Dropping c (λ job. IsStoppedAt c job key))
@@ -88,10 +89,15 @@ IsDropShort c = IsSpared c ⊎ Dropping c (λ job. Stepped (RemovalIn (keys_firs
 
 -- what a removal answers, from the text on
 abbrev pub Dropped : RunCase → Status → Type 0
+-- 0: all keys of the plan are gone, and the whole report was written
 Dropped c Done = IsDropped c
+-- 12: the same, but the sink failed
 Dropped c WriteFault = IsDroppedUnreported c
+-- 16: this key may be at fault. As many calls failed as are made for one key, by the count of faults
 Dropped c (DepotFailed key) = IsDropFailed c key
+-- 70: memory was wanted
 Dropped c NoMemory = IsDropShort c
+-- 14: the record is another plan's; 15: there was none, or a node reads the output; and 3 to 8
 Dropped c status = IsNotReopened c status
 
 -- what the command `drop` answers

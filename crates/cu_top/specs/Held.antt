@@ -82,7 +82,8 @@ abbrev pub HasNoRecord : RunCase → Type 0
 HasNoRecord c = IsSpared c × OfPlanned c (λ job. WasUnrecorded c job
     ⊎ ((is_own_input job.expr ≡ true) × WasRecorded c job))
 
--- 16: all calls for the metadata of an input in its turn, or for the record, failed
+-- 16: as many calls failed as are made for one key, by the count of faults. This key may be at fault:
+-- that of an input's metadata in its turn, or the record's.
 abbrev pub IsUnasked : RunCase → List ℕ → Type 0
 IsUnasked c key = Rose (c.options.retries + 1) c.old.depot.faults c.new.depot.faults
     × (HasNoJob c (fault.DepotFailed key) ⊎ (IsSpared c × OfPlanned c (λ job. key ≡ record_key_of job.expr.store_as)))

@@ -9,14 +9,17 @@ pub mod Demo
 pub mod Driven
 pub mod Drop
 pub mod Held
+pub mod Kept
 pub mod Laws
 pub mod Limits
 pub mod Parts
+pub mod PlanOf
 pub mod Planned
 pub mod Prepare
 pub mod Quiet
 pub mod Record
 pub mod Report
+pub mod Result
 pub mod Resume
 pub mod Run
 pub mod Sample

@@ -110,8 +110,9 @@ abbrev pub IsTooEarly : RunCase → Part → ℕ → ℕ → Type 0
 IsTooEarly c q op task = IsSpared c × Parted c q (λ job part. (op ≡ q.op)
     × IsUnstarted (asking_in c job part) c.new.depot (fault.NotReady task))
 
--- 10: all tries of this task failed, which was chosen, since it lacked a chunk when the command began
--- and had the made inputs that it reads; the faults are counted from the choice on
+-- 10: this task may be at fault. As many calls failed as it is tried, by the count of faults from the
+-- choice of the tasks on. It was chosen, since it lacked a chunk when the command began and had the
+-- made inputs that it reads.
 abbrev pub IsPartedBroken : RunCase → Part → ℕ → ℕ → Type 0
 IsPartedBroken c q op task = Parted c q (λ job part. (op ≡ q.op)
     × IsPartFault (asking_in c job part) c.new.depot (fault.Broken task))
@@ -122,8 +123,9 @@ abbrev pub IsPartedBad : RunCase → Part → List ℕ → ℕ → ℕ → Type 
 IsPartedBad c q key got want = Parted c q (λ job part.
     IsPartFault (asking_in c job part) c.new.depot (fault.BadChunk key got want))
 
--- 16: all calls for this key failed, and nothing was stored: the metadata's of an input in its turn, the
--- record's, or that of a chunk that a task of the part writes or reads
+-- 16: as many calls failed as are made for one key, by the count of faults, and nothing was stored. This
+-- key may be at fault: the metadata's of an input in its turn, the record's, or that of a chunk that a
+-- task of the part writes or reads.
 abbrev pub IsPartFailed : RunCase → Part → List ℕ → Type 0
 IsPartFailed c q key = IsUnasked c key
     ⊎ (IsSpared c × Parted c q (λ job part. IsUnstarted (asking_in c job part) c.new.depot (fault.Failed key)))
@@ -134,14 +136,23 @@ IsPartShort c q = IsSpared c ⊎ Parted c q (λ job part. IsTrue c.new.depot.lac
 
 -- what a part answers, from the text on
 abbrev pub WasParted : RunCase → Part → Status → Type 0
+-- 0: each chunk of the part's tasks is held, and the whole report was written
 WasParted c q Done = IsPartedDone c q
+-- 12: the same, but the sink failed
 WasParted c q WriteFault = IsPartedUnreported c q
+-- 20: the plan hasn't these tasks
 WasParted c q (NoTasks op tasks) = HasNoTasks c q op tasks
+-- 21: this task was to start, and lacks a made chunk that it reads
 WasParted c q (NotReady op task) = IsTooEarly c q op task
+-- 10: this task may be at fault. It was started, and as many calls failed as it is tried
 WasParted c q (TaskFailed op task) = IsPartedBroken c q op task
+-- 13: this chunk, which a task reads that was started, has another length
 WasParted c q (BadChunk key got want) = IsPartedBad c q key got want
+-- 16: this key may be at fault. As many calls failed as are made for one key, by the count of faults
 WasParted c q (DepotFailed key) = IsPartFailed c q key
+-- 70: memory was wanted
 WasParted c q NoMemory = IsPartShort c q
+-- 14: the record is another plan's; 15: there is none; and 3 to 8
 WasParted c q status = IsNotReopened c status
 
 -- what the command `part` answers

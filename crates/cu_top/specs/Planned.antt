@@ -13,8 +13,9 @@ use Rattle.cu_top.specs.Call.{AreSpared, CameToRun, IsReadFault}
 pub use Rattle.cu_top.specs.Limits.{plan_calls}
 use Rattle.cu_top.specs.Run.{Scene, RunCase, plan_in, HasNoJob, IsSpared, WasRefused, OfPlanned, WroteTo}
 
--- why a text has no plan, and nothing was stored: all calls for the metadata of an input in its turn failed, memory was wanted, or the text,
--- the metadata, the types or the plan was refused
+-- Why a text has no plan, and nothing was stored. As many calls failed as are made for one key, and
+-- that of an input's metadata in its turn may be at fault; or memory was wanted; or the text, the
+-- metadata, the types or the plan was refused.
 abbrev pub IsPlanRefused : RunCase → Status → Type 0
 IsPlanRefused c (DepotFailed key) = HasNoJob c (fault.DepotFailed key)
 IsPlanRefused c NoMemory = IsSpared c
@@ -24,7 +25,7 @@ IsPlanRefused c status = WasRefused c status
 abbrev pub OfPlanText : RunCase → (List ℕ → Type 0) → Type 0
 OfPlanText c fact = IsSpared c × OfPlanned c (λ job. fact (plan_text (plan_in c job)))
 
--- 0: the whole text of the plan was written
+-- 0: the whole text of the plan was written: a line for each operation whose result is stored
 abbrev pub IsPrinted : RunCase → Type 0
 IsPrinted c = OfPlanText c (λ text. WroteTo c text (length text))
 
@@ -34,8 +35,11 @@ IsUnprinted c = Rose 1 c.old.sink.faults c.new.sink.faults × OfPlanText c (λ t
 
 -- what planning a text answers
 abbrev pub Plans : RunCase → Status → Type 0
+-- 0: a line for each operation whose result is stored was written, and the last line
 Plans c Done = IsPrinted c
+-- 12: the same, but the sink failed
 Plans c WriteFault = IsUnprinted c
+-- 16: the key of an input's metadata may be at fault; 70: memory was wanted; and 3 to 8
 Plans c status = IsPlanRefused c status
 
 -- what the command `plan` answers

@@ -25,7 +25,9 @@ use Rattle.cu_command.specs.declared.status.Status.TheVariants.{OverMemory, Over
 
 -- ---- the plan
 
--- the plan of a job's expression, in which maps are merged
+-- The plan of a job's expression, in which maps are merged. A reader may leave this name closed: what
+-- is to be relied on of the plan is `IsPlanOf`, by `plan_of_law`. Only the texts that `plan` and
+-- `begin` print depend on the rule by which it is made.
 abbrev pub job_plan : Options → Job → PlanView
 job_plan options job = merged_plan_of job.expr job.types job.inputs.items options
 

@@ -153,8 +153,9 @@ abbrev pub IsResumedUnreported : RunCase → Type 0
 IsResumedUnreported c = Rose 1 c.old.sink.faults c.new.sink.faults
     × Resumed c (λ job. HoldsAll c job × CountedOn c job (λ line. (n : ℕ) × (n ≤ length line) × WroteTo c line n))
 
--- 10: this task of the operation that has this number among those whose results are stored ended the run, and one of its chunks was
--- absent when the command began
+-- 10: this task may be at fault, of the operation that has this number among those whose results are
+-- stored. By a history of the run it ended the run; as many calls failed, by the count of faults, as
+-- it is tried; and one of its chunks was absent when the command began.
 abbrev pub IsResumedBroken : RunCase → ℕ → ℕ → Type 0
 IsResumedBroken c op task = Rose (c.options.retries + 1) c.old.depot.faults c.new.depot.faults
     × Resumed c (λ job. (k : ℕ) × (op ≡ listed_number (plan_in c job) k)
@@ -177,9 +178,9 @@ IsStoppedBefore c job key = Stepped (MetadataPut c job) c.old.depot c.new.depot
 abbrev pub HadNoRecord : RunCase → Type 0
 HadNoRecord c = IsSpared c × OfPlanned c (WasUnrecorded c)
 
--- 16: all calls for this key failed. Nothing was changed, and the key is that of an input's metadata
--- in its turn or the record's; or the plan was found again, and it is one of the plan's; or the run
--- went on, and no chunk was put.
+-- 16: as many calls failed as are made for one key, by the count of faults, and this key may be at
+-- fault. Nothing was changed, and the key is that of an input's metadata in its turn or the record's;
+-- or the plan was found again, and it is one of the plan's; or the run went on, and no chunk was put.
 abbrev pub IsResumeFailed : RunCase → List ℕ → Type 0
 IsResumeFailed c key = IsUnasked c key ⊎ (Rose (c.options.retries + 1) c.old.depot.faults c.new.depot.faults
     × ((IsSpared c × ((job : Job) × IsReopened c job × Contains (keys_of c.options job) key))
@@ -192,13 +193,22 @@ IsResumeShort lack c = IsSpared c ⊎ Resumed c (λ job. Stepped (MetadataPut c 
 
 -- what a run that goes on answers, of a depot whose yards lack memory or don't
 abbrev pub WasResumed : Bool → RunCase → Status → Type 0
+-- 0: the output is complete and means the expression, and the whole report was written
 WasResumed lack c Done = IsResumedDone c
+-- 12: the same, but the sink failed
 WasResumed lack c WriteFault = IsResumedUnreported c
+-- 10: this task may be at fault. By the history of the run it failed as often as it is tried, and
+-- ended the run; and the faults were counted
 WasResumed lack c (TaskFailed op task) = IsResumedBroken c op task
+-- 13: this chunk, which a task reads, has another length
 WasResumed lack c (BadChunk key got want) = IsResumedBad c key got want
+-- 16: this key may be at fault. As many calls failed as are made for one key, by the count of faults
 WasResumed lack c (DepotFailed key) = IsResumeFailed c key
+-- 70: memory was wanted
 WasResumed lack c NoMemory = IsResumeShort lack c
+-- 15: there was no record
 WasResumed lack c NoPlan = HadNoRecord c
+-- 14: the record is another plan's; and 3 to 8
 WasResumed lack c status = IsNotReopened c status
 
 -- what the command `resume` answers

@@ -225,8 +225,10 @@ abbrev pub HasBroken : RunCase → Job → ℕ → ℕ → List Entry → Machin
 HasBroken c job op task history m = (m.ended ≡ Some (Broken op task)) × (count_of_task is_failed op task history ≡ c.options.retries + 1) × (count_of_task is_done op task history ≡ 0)
     × WhereLeft c job (λ env. HoldsDone (job_run c job) env m c.new.depot)
 
--- 10: this task of the operation that has this number among those whose results are stored ended the run, and its chunks were absent
--- when the run began. Where the contents were told and the premise holds, the texts are held.
+-- 10: this task may be at fault, of the operation that has this number among those whose results are
+-- stored. By a history of the run it ended the run; as many calls failed, by the count of faults, as
+-- it is tried; and its chunks were absent when the run began. Where the contents were told and the
+-- premise holds, the texts are held.
 abbrev pub IsTaskFailed : RunCase → ℕ → ℕ → Type 0
 IsTaskFailed c op task = Rose (c.options.retries + 1) c.old.depot.faults c.new.depot.faults
     × Started c (λ job. (k : ℕ) × (op ≡ listed_number (plan_in c job) k)
@@ -265,8 +267,10 @@ IsMissing c name = HasNoJob c (fault.NoArray name)
 abbrev pub IsRefused : RunCase → List ℕ → ℕ → Type 0
 IsRefused c name code = HasNoJob c (fault.BadMeta name code)
 
--- 16: all calls for this key failed. Nothing was stored, and the key is that of an input's metadata in its turn, or one of the plan's, before which
--- the others were found absent; or the run was started, and the key is that of one of its texts.
+-- 16: as many calls failed as are made for one key, by the count of faults, and this key may be at
+-- fault. Nothing was stored, and the key is that of an input's metadata in its turn, or one of the
+-- plan's, before which the others were found absent; or the run was started, and the key is that of
+-- one of its texts.
 abbrev pub IsDepotFailed : RunCase → List ℕ → Type 0
 IsDepotFailed c key = Rose (c.options.retries + 1) c.old.depot.faults c.new.depot.faults
     × (HasNoJob c (fault.DepotFailed key) ⊎ ((IsSpared c × OfPlanned c (λ job. IsFirstOf c.old.depot (asked_keys c.options job) key × IsOwnFirst job.expr key)) ⊎ Started c (λ job. IsTextFailed c job key)))
@@ -285,23 +289,38 @@ IsWanting lack c = IsSpared c ⊎ Started c (λ job. Stepped (TextPut c job) c.o
 
 -- 3 to 8: the text, the metadata of an input, the types or the plan was refused, and nothing was stored
 abbrev pub WasRefused : RunCase → Status → Type 0
+-- 3: it is no expression
 WasRefused c (BadExpr code node) = IsBadExpr c code node
+-- 4: the expression has no types
 WasRefused c (BadType code node) = IsBadType c code node
+-- 5: a live node needs more than is allowed
 WasRefused c (OverMemory node need allowed) = HasNoPlan c (OverMemory node need allowed)
+-- 6: the plan exceeds a limit
 WasRefused c (OverLimit which count) = HasNoPlan c (OverLimit which count)
+-- 7: the metadata of an input is refused
 WasRefused c (BadMeta name code) = IsRefused c name code
+-- 8: an input has none
 WasRefused c (NoArray name) = IsMissing c name
 WasRefused c status = ⊥
 
 -- what a run answers, of a depot whose yards lack memory or don't
 abbrev pub Ran : Bool → RunCase → Status → Type 0
+-- 0: the output is complete and means the expression, and the whole report was written
 Ran lack c Done = IsRunDone c
+-- 12: the same, but the sink failed
 Ran lack c WriteFault = IsUnreported c
+-- 10: this task may be at fault. By the history of the run it failed as often as it is tried, and
+-- ended the run; and the faults were counted
 Ran lack c (TaskFailed op task) = IsTaskFailed c op task
+-- 13: this chunk, which a task reads, has another length
 Ran lack c (BadChunk key got want) = IsBadInput c key got want
+-- 16: this key may be at fault. As many calls failed as are made for one key, by the count of faults
 Ran lack c (DepotFailed key) = IsDepotFailed c key
+-- 9: this key is in the way
 Ran lack c (Exists key) = IsBlocked c key
+-- 70: memory was wanted
 Ran lack c NoMemory = IsWanting lack c
+-- 3 to 8
 Ran lack c status = WasRefused c status
 
 -- nothing was printed but by the report

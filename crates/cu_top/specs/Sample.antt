@@ -113,6 +113,18 @@ left_held = sample_with (Some sample_record)
 abbrev pub left_shown : Shown
 left_shown = shown_of_sample (Some sample_record)
 
+-- The array from its end on, and 1 more at each place. With `--fusion 2` what is read from the end on
+-- is made where 1 is added to it, and isn't stored.
+unfoldable pub fused_text : List ℕ
+fused_text = codes "{\"nodes\":[{\"id\":\"x\",\"op\":\"input\",\"name\":\"x\"},{\"id\":\"f\",\"op\":\"flip\",\"args\":[\"x\"]},{\"id\":\"t\",\"op\":\"add\",\"args\":[\"f\",1]}],\"out\":\"t\",\"store_as\":\"y\"}"
+
+abbrev pub fused_options : Options
+fused_options = record sample_options { allowed = 4096; fusion = 2 }
+
+abbrev pub fused_run : List (List ℕ)
+fused_run =
+    codes "run" ∷ codes "--allowed-mem" ∷ codes "4096" ∷ codes "--fusion" ∷ codes "2" ∷ []
+
 -- the array of 1 to 7, whose first chunk this is
 abbrev pub sample_array : GivenArray
 sample_array = record {

@@ -1,8 +1,6 @@
 -- Two depots that hold the same inputs, each under a key of metadata of its own. This project's own rules.
-use Rattle.std.specs.Prelude.{◌≡◌, ℕ, List, All, Contains, Some}
+use Rattle.std.specs.Prelude.{◌≡◌, ℕ, List, All, Some}
 use Rattle.cu_expr.specs.declared.inputs.InputInfo.{InputInfo}
-use Rattle.cu_form.specs.declared.expr.Node.{Node}
-use Rattle.cu_form.specs.declared.form.Form.{Form}
 use Rattle.cu_store.specs.Held.{Contents}
 use Rattle.cu_store.specs.Steps.{Shown}
 use Rattle.cu_zarr.specs.Key.{chunk_key_of}
@@ -11,6 +9,7 @@ use Rattle.cu_command.specs.Job.{names_said}
 use Rattle.cu_command.specs.Stored.{StoresLayout}
 use Rattle.cu_command.specs.declared.job.Job.{Job}
 use Rattle.cu_expr.specs.Inputs.{layout_named}
+use Rattle.cu_top.specs.Kept.{IsUsed}
 
 -- The names that a text uses have metadata of these layouts, of version 3 or of version 2, and no other is late.
 pub record StoresInputs (entry : Shown) (text : List ℕ) (inputs : List InputInfo) : Type 0 where
@@ -20,11 +19,7 @@ pub record StoresInputs (entry : Shown) (text : List ℕ) (inputs : List InputIn
   pub held : All (λ i. StoresLayout entry.held i.name i.layout) inputs
   pub calm : All (λ i. AreCalmAt entry i.name) inputs
 
--- an input node of the job uses the array with this name
-abbrev pub IsUsed : Job → List ℕ → Type 0
-IsUsed job name = (node : Node) × Contains job.expr.nodes node × (node.form ≡ Form.Input name)
-
 -- the same is held under each key of a chunk of an array that is used
 abbrev pub HoldSameChunks : Job → Contents → Contents → Type 0
-HoldSameChunks job a b = (name coord : List ℕ) → IsUsed job name
+HoldSameChunks job a b = (name coord : List ℕ) → IsUsed job.expr name
     → a (chunk_key_of name (layout_named job.inputs.items name).encoding coord) ≡ b (chunk_key_of name (layout_named job.inputs.items name).encoding coord)

@@ -1,7 +1,8 @@
 //! The program's one call.
-ghost use Rattle.std.specs.Prelude.{◌≡◌, ℕ, List, Option, Ok, Err};
+ghost use Rattle.std.specs.Prelude.{◌≡◌, ◌⊎◌, ℕ, List, Option, Some, Ok, Err};
 ghost use Rattle.cu_command.specs.Streams.{ReadsAll};
 ghost use Rattle.cu_lower.specs.declared.options.Options.{Options};
+ghost use Rattle.cu_store.specs.Held.{Contents};
 ghost use Rattle.cu_top.specs.Answered.{RunAnswered, ResumeAnswered, DropAnswered, PlanAnswered};
 ghost use Rattle.cu_top.specs.Answered.{LoadAnswered, CheckAnswered, PrintAnswered, DemoAnswered};
 ghost use Rattle.cu_top.specs.Answered.{BeginAnswered, PartAnswered, moment};
@@ -9,6 +10,7 @@ ghost use Rattle.cu_top.specs.Call.{DidNothing, IsWordsRefused};
 ghost use Rattle.cu_top.specs.Demo.{IsDemoCalm, WhereTold};
 ghost use Rattle.cu_top.specs.Held.{IsLeftEntry};
 ghost use Rattle.cu_top.specs.Quiet.{IsCalm};
+ghost use Rattle.cu_top.specs.Result.{HoldsResult, StartsFrom};
 ghost use Rattle.cu_work.specs.declared.part.Part.{Part};
 ghost use Rattle.cu_top.specs.Told.{BeginTold, PartTold, CallTold, RunTold, ResumeTold, DropTold, PlanTold};
 ghost use Rattle.cu_top.specs.Words.{run, resume, drop, plan, load, check, print, demo, asked_by};
@@ -19,6 +21,7 @@ use crate::demo::demo;
 use crate::drop::drop_plan;
 use crate::parts::store_part;
 use crate::planned::print_plan;
+use crate::result::result_law;
 use crate::resume::resume;
 use crate::run::run;
 use crate::words::{Asked, PartNumbers, Reading, read_words};
@@ -37,12 +40,15 @@ use std::thread::Threads;
 /// the array that it makes in the depot, and writes the report to the sink. `resume` goes on with a
 /// run that was stopped, and `drop` removes all keys of a plan. `begin` does what `run` does before
 /// its first task, and `part` runs some tasks of a plan that was begun. `plan` reads an expression and
-/// writes what its plan does; it stores nothing. `load` reads an array and stores it.
+/// prints the operations of its plan whose results are stored; it stores nothing. `load` reads an
+/// array and stores it.
 /// `check` reads an expression from the source and compares its stored output with what it means.
 /// `print` writes a stored array to the sink. `demo` stores two inputs that it makes, computes an
 /// expression over them, and writes its one element and the report.
 ///
-/// What each command answers, line by line, stands in `specs/Answered.antt`.
+/// What 0 means stands in `specs/Result.antt`, and what each command answers in `specs/Answered.antt`,
+/// whose tables have a line for each answer. 10 names a task and 16 a key that may be at fault: so
+/// many calls failed as it is tried, by the count of the depot's faults.
 pub fn top<H: Threads + Wait + Sync, R: Source, W: Sink, D: Share, G: Gate>(
     rt: &H,
     alloc: Global,
@@ -77,6 +83,18 @@ pub fn top<H: Threads + Wait + Sync, R: Source, W: Sink, D: Share, G: Gate>(
         (D.shown depot.old))
         (moment (R.left src.new) (R.faults src.new) (W.written out.new) (W.faults out.new)
         (D.shown depot.new)) }
+    // What 0 means, without a word of how it was computed. Of the premises above, `quiet` holds by
+    // itself where no put is late. `left`, of `resume`, doesn't, and speaks of the plan. `inputs_law`
+    // says what 0 of a `resume` means where other commands went before.
+    ensures computed { (o : Options) (text : List ℕ) (entry now : Contents)
+        → (asked_by words.now ≡ Ok (run o)) ⊎ (asked_by words.now ≡ Ok (resume o))
+        → StartsFrom (R.left src.old) (D.shown depot.old) text entry
+        → (D.shown depot.new).held ≡ Some now → result ≡ Status.Done
+        → HoldsResult text entry now }
+    ensures checked { (retries : ℕ) (text : List ℕ) (entry : Contents)
+        → asked_by words.now ≡ Ok (check retries)
+        → StartsFrom (R.left src.old) (D.shown depot.old) text entry → result ≡ Status.Done
+        → HoldsResult text entry entry }
     // What each command answers, and what it leaves.
     ensures run { (o : Options) → asked_by words.now ≡ Ok (run o)
         → RunAnswered (D.yards_lack depot.new) o
@@ -149,6 +167,7 @@ pub fn top<H: Threads + Wait + Sync, R: Source, W: Sink, D: Share, G: Gate>(
         (D.shown depot.new))
         result }
 {
+    result_law();
     carry(rt, alloc, words, src, out, depot, gate)
 }
 

@@ -1,12 +1,14 @@
 //! Laws of the commands: calls that do nothing and whose clauses are the laws.
 ghost use Rattle.std.specs.Prelude.{◌≡◌, ◌≢◌, ◌<◌, ◌∷◌, [], ℕ, Bool, true, List, All, Some, Ok, codes, length};
 ghost use Rattle.cu_store.specs.Steps.{Shown};
+ghost use Rattle.cu_op.specs.Arrays.{is_inlined};
 ghost use Rattle.cu_op.specs.Elements.{Elements};
 ghost use Rattle.cu_op.specs.PlanView.{PlanView};
 ghost use Rattle.cu_op.specs.Within.{is_listed, listed_number};
 ghost use Rattle.cu_run_law.specs.Left.{IsLeft};
 ghost use Rattle.cu_run_law.specs.Pieces.{PlanRun};
 ghost use Rattle.cu_work.specs.Commands.{AreCommands, IsCommand};
+ghost use Rattle.cu_command.specs.Job.{IsJob};
 ghost use Rattle.cu_command.specs.declared.job.Job.{Job};
 ghost use Rattle.cu_command.specs.declared.status.Status.{Status};
 ghost use Rattle.cu_lower.specs.declared.options.Options.{Options};
@@ -22,10 +24,12 @@ ghost use Rattle.cu_top.specs.Drop.{Dropped};
 ghost use Rattle.cu_top.specs.Held.{TextsDifferAt};
 ghost use Rattle.cu_top.specs.Laws.{IsOfPlan};
 ghost use Rattle.cu_top.specs.Parts.{WasParted, inner_number};
+ghost use Rattle.cu_top.specs.Prepare.{job_plan};
 ghost use Rattle.cu_top.specs.Record.{before_version, record_text, record_version};
 ghost use Rattle.cu_top.specs.Resume.{WasResumed};
 ghost use Rattle.cu_top.specs.Run.{RunCase, IsSpared, Ran};
 ghost use Rattle.cu_top.specs.Sample.{demo_options, empty_held, empty_shown, left_held, left_shown};
+ghost use Rattle.cu_top.specs.Sample.{fused_options, fused_run, fused_text};
 ghost use Rattle.cu_top.specs.Sample.{sample_array, sample_begin, sample_part, sample_resume, sample_tasks};
 ghost use Rattle.cu_top.specs.Sample.{sample_held, sample_input, sample_late, sample_layout, sample_options, sample_plan, sample_run, sample_shown, sample_text};
 ghost use Rattle.cu_top.specs.Words.{command_of, begin, part, plan, resume, run};
@@ -74,10 +78,14 @@ pub fn record_law()
 /// The premises of the commands are met by a small store, which holds the metadata and one chunk of an array, and where a put of this
 /// chunk is late: `run` is served there, and so are `plan` and, where the record is held too, `resume`; what is late carries what `load`
 /// stores; and what `print` and `check` say of keys that no late put changes holds. So is `begin` where `run` is, and `part`, of the
-/// first task of the plan, where `resume` is. A demonstration is served over an empty store.
+/// first task of the plan, where `resume` is. With `--fusion 2` a run is served whose plan makes an array where it is read. A
+/// demonstration is served over an empty store.
 pub fn premises_law()
     ensures run_words { command_of sample_run ≡ Ok (run sample_options) }
     ensures run { IsServable sample_options sample_text sample_held sample_shown }
+    ensures fused_words { command_of fused_run ≡ Ok (run fused_options) }
+    ensures fused { IsServable fused_options fused_text sample_held sample_shown }
+    ensures fused_inlined { (job : Job) → IsJob sample_shown fused_text job → is_inlined (job_plan fused_options job).arrays 1 ≡ true }
     ensures begin_words { command_of sample_begin ≡ Ok (begin sample_options) }
     ensures begin { IsBeginnable sample_options sample_text sample_held sample_shown }
     ensures plan_words { command_of sample_plan ≡ Ok (plan sample_options) }

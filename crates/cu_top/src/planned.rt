@@ -13,7 +13,8 @@ use cu_plan::plan_text;
 use cu_store::{PutStore, Sink};
 use std::alloc::Global;
 
-/// Makes the plan of a text's expression, and writes what it does: a line for each operation, and one for the whole plan. Nothing is stored.
+/// Makes the plan of a text's expression, and writes what it does: a line for each operation whose result is stored, and one for
+/// the whole plan. Nothing is stored.
 pub fn print_plan<W: Sink, D: PutStore>(
     alloc: Global,
     options: &Options,

@@ -3,6 +3,7 @@ use Rattle.cu_check.specs.Arrays.{IsReadChunk}
 use Rattle.cu_print.specs.Print.{IsArrayMetadata, IsChunkAt}
 use Rattle.cu_top.specs.Sample.{sample_input, sample_layout}
 use Rattle.cu_top.proofs.SampleArrays.{array_calm, demo_at_rest, demo_calm}
+use Rattle.cu_top.proofs.SampleFused.{fused_given, fused_inlined, fused_servable}
 use Rattle.cu_top.proofs.SamplePart.{part_given, part_ready}
 use Rattle.cu_top.proofs.SampleResume.{resumable, resume_given, resumed_whole}
 use Rattle.cu_top.proofs.SampleLemmas.{begin_given, beginnable, run_given, plan_given, servable, plannable, steady}
@@ -12,6 +13,9 @@ pub returns : goal.returns
 returns c = record {
   run_words = run_given;
   run = servable;
+  fused_words = fused_given;
+  fused = fused_servable;
+  fused_inlined = fused_inlined;
   begin_words = begin_given;
   begin = beginnable;
   plan_words = plan_given;
