@@ -351,7 +351,7 @@ class Emptied(InFolder):
 
 @unittest.skipUnless(shutil.which("strace"), "no strace")
 class FailingCalls(InFolder):
-    """The system's calls fail by strace. A program that begins closes files too: those calls are left as they are."""
+    """The system's calls fail by strace."""
 
     def traced(self, calls, *words, inject=None, text=b"", only=()):
         trace = f"{self.outside}.trace"
@@ -360,23 +360,15 @@ class FailingCalls(InFolder):
         with open(trace, encoding="utf-8") as file:
             return told, file.read().splitlines()
 
-    def closed_first(self, text, *options):
-        """How many files are closed before the first new one is made."""
-        told, lines = self.traced("close,openat", "load", *options, text=text)
-        self.assertEqual(told[0], 0)
-        shutil.rmtree(self.dir)
-        os.mkdir(self.dir)
-        made = next(at for at, line in enumerate(lines) if "O_EXCL" in line)
-        return sum(" close(" in line for line in lines[:made])
-
-    def test_an_error_at_closing_is_a_fault_with_and_without_syncs(self):
+    def test_a_file_that_is_short_when_it_is_closed_is_a_fault_with_and_without_syncs(self):
+        # A write of a chunk's two bytes that is answered and stores nothing leaves a file as a quota does that is told at closing.
         text = array("x", [1, 2, 3], 2)
-        for options in (("--sync", "0"), ("--sync", "1")):
-            first = self.closed_first(text, *options) + 1
-            told, _ = self.traced("close", "load", *options, inject=f"close:error=EDQUOT:when={first}+", text=text)
+        for sync in ("0", "1"):
+            lost = "write:retval=2:when=1"
+            told, _ = self.traced("write", "load", "--sync", sync, "--retries", "0", inject=lost, text=text)
             self.assertEqual((told, self.files()), ((16, "error 16 key=x/c/0"), []))
-            # One such error, and the put is tried again.
-            told, _ = self.traced("close", "load", *options, inject=f"close:error=EDQUOT:when={first}", text=text)
+            # One such write, and the put is tried again.
+            told, _ = self.traced("write", "load", "--sync", sync, "--retries", "1", inject=lost, text=text)
             self.assertEqual((told[0], self.read("x/c/0"), self.read("x/c/1")[:1]), (0, b"\1\2", b"\3"))
             shutil.rmtree(self.path("x"))
 
