@@ -6,6 +6,7 @@ import unittest
 
 from test_base import TOP, InFolder, put as put_bytes
 import adding
+import contract_size
 import crate_pages
 import definitions
 
@@ -42,26 +43,20 @@ class Pages(unittest.TestCase):
 
 class Definitions(InFolder):
     def test_the_page_is_what_the_script_writes(self):
-        found = definitions.parted(definitions.Reader())
+        found = definitions.parted(contract_size.Crates(definitions.CRATES))
         self.assertEqual(page_text("docs/DEFINITIONS.md"), "\n".join(definitions.lines(found)), "tools/definitions.py writes it anew")
         names = {it.name for there in found.values() for it in there}
-        self.assertLessEqual({"RunAnswered", "stored_element", "rule_of", "Contents", "Status", "◌>>=◌"}, names)
+        self.assertLessEqual({"RunAnswered", "stored_element", "rule_of", "Contents", "Status", "Depot"}, names)
 
-    def test_a_name_is_followed(self):
-        """By an import that is handed on, by another name, by a constructor and by an operator, and not where it is bound."""
-        put(f"{self.top}/cu_a/specs/One.antt", "use Rattle.cu_b.specs.Two.{half as part, ◌≪◌, Red}\n\n-- The whole. And more.\nabbrev pub whole : ℕ → ℕ\n"
-                                               "whole own = part own ≪ own\n\n-- a colour\nabbrev pub colour : Colour\ncolour = Red\n")
-        put(f"{self.top}/cu_b/specs/Two.antt", "use Rattle.cu_b.specs.Three.{half}\n\n-- a colour of two\ndata Colour : Type 0 where\n  Red : Colour\n\n"
-                                               "-- how far\ninfixl 10 ◌≪◌\nabbrev pub ◌≪◌ : ℕ → ℕ → ℕ\na ≪ b = own\n\nown : ℕ\nown = zero\n")
-        put(f"{self.top}/cu_b/specs/Three.antt", "-- the half\nabbrev pub half : ℕ → ℕ\nhalf n = n\n")
+    def test_the_comment_right_above_is_told(self):
+        """Its first sentence; of an operator behind its line of precedence, of a type before its derived traits."""
+        put(f"{self.top}/One.antt", "-- The file. It is long.\nuse Rattle.std.specs.Prelude.{ℕ}\n\n-- The whole. And more.\nabbrev pub whole : ℕ → ℕ\nwhole n = n\n\n"
+                                    "-- ---- operators\n\n-- how far\ninfixl 10 ◌≪◌\nabbrev pub ◌≪◌ : ℕ → ℕ\n\npub bare : ℕ\n")
+        put(f"{self.top}/two.rt", "/// A colour of two,\n/// and no more. Else none.\n#[derive(Clone)]\npub enum Colour {\n    Red,\n}\n")
         old, definitions.CRATES = definitions.CRATES, str(self.top)
         self.addCleanup(setattr, definitions, "CRATES", old)
-        reader = definitions.Reader()
-        roots = [reader.at("Rattle.cu_a.specs.One", name) for name in ("whole", "colour")]
-        found = [(it.name, it.path, it.told) for it in reader.reached(roots)]
-        self.assertEqual(found, [("whole", "cu_a/specs/One.antt", "the whole"), ("colour", "cu_a/specs/One.antt", "a colour"),
-                                 ("half", "cu_b/specs/Three.antt", "the half"), ("◌≪◌", "cu_b/specs/Two.antt", "how far"),
-                                 ("Colour", "cu_b/specs/Two.antt", "a colour of two"), ("own", "cu_b/specs/Two.antt", "")])
+        self.assertEqual(definitions.comments("One.antt"), {"whole": (5, "the whole"), "◌≪◌": (12, "how far"), "bare": (14, "")})
+        self.assertEqual(definitions.comments("two.rt"), {"Colour": (4, "a colour of two, and no more")})
 
 
 class Adding(InFolder):
