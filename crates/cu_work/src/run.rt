@@ -61,7 +61,12 @@ pub enum RunFault {
 }
 
 /// Stores one text.
-fn put_text<D: PutStore>(depot: &mut D, key: &Key, text: &[u8], retries: u32) -> Result<(), RunFault>
+fn put_text<D: PutStore>(
+    depot: &mut D,
+    key: &Key,
+    text: &[u8],
+    retries: u32,
+) -> Result<(), RunFault>
     ensures stored { OnOk result (Holds (D.shown depot.new).held key.now text.now) }
     ensures step { Steps (PutOf key.now text.now) 1 (retries + 1) (D.shown depot.old) (D.shown depot.new) }
     ensures once { OnceEach 1 (D.shown depot.old) (D.shown depot.new) }
