@@ -79,7 +79,11 @@ class Room:
         make(self.path(key))
 
     def folder(self, key):
+        """A folder that isn't empty."""
         self.in_place(key, lambda path: os.makedirs(os.path.join(path, "inside")))
+
+    def empty(self, key):
+        self.in_place(key, os.mkdir)
 
     def pipe(self, key):
         self.in_place(key, os.mkfifo)
@@ -226,10 +230,12 @@ def of_run():
     yield runs("a file lies at `y`", does("put", "y"), *error(16, key="y/zarr.json"), {RECORD})
     yield runs("a file lies at `y/c`", does("put", "y/c"), *error(10, op=0, task=0), TEXTS)
     yield runs("a file lies at `a/c`", several(does("remove", "a/c"), does("put", "a/c")))
-    yield runs("a folder lies at `a/zarr.json`", does("folder", "a/zarr.json"), *error(16, key="a/zarr.json"))
-    yield runs("a folder lies at `a/c/1`", does("folder", "a/c/1"), *task, FIRST)
+    yield runs("a folder lies at `a/zarr.json`", does("folder", "a/zarr.json"), *error(8, name="a"))
+    yield runs("a folder lies at `a/c/1`", does("folder", "a/c/1"))
     yield runs("a file lies at `y/c/1`", does("put", "y/c/1"), *error(9, key="y/c/1"))
-    yield runs("a folder lies at `y/c/1`", does("folder", "y/c/1"), *error(16, key="y/c/1"))
+    yield runs("a folder lies at `y/c/1`", does("folder", "y/c/1"), *task, FIRST)
+    for key in sorted(ALL):
+        yield runs(f"an empty folder lies at `{key}`", does("empty", key))
     yield runs("`a/c/1` is one byte short", does("cut", "a/c/1", 15), *short, FIRST)
     yield runs("`b/c/0` is one byte too long", does("cut", "b/c/0", 17), *error(13, key="b/c/0", got=17, want=16), TEXTS)
     yield runs("`a/c/1` is missing", does("remove", "a/c/1"))
@@ -275,6 +281,7 @@ def of_load():
     yield load("load, and a file lies at `c`", does("put", "c"), *error(16, key="c/c/0"))
     yield load("load, and a file lies at `c/c`", does("put", "c/c"), *error(16, key="c/c/0"))
     yield load("load, and a folder lies at `c/c/1`", does("folder", "c/c/1"), *error(16, key="c/c/1"), {"c/c/0"})
+    yield load("load, and an empty folder lies at `c/c/1`", does("empty", "c/c/1"))
     yield load("load, and a file lies at `_cubed/c/plan.json`", does("put", "_cubed/c/plan.json"), *error(9, key="_cubed/c/plan.json"))
     yield load("load, and a file lies at `c/c/0`", does("put", "c/c/0"))
     yield load("load, and a link at `c/c/0` leads to a file elsewhere", lambda room: room.link("c/c/0", os.path.join(room.beside, "chunk")))
@@ -293,7 +300,7 @@ def of_others():
     yield Row("print", lambda room: None, 0, f"{head}\n1 2 3 4 5 6", set(), ("print", "a"))
     yield Row("print, and `a/c/0` is missing", does("remove", "a/c/0"), 0, f"{head}\n0 0 0 0 5 6", set(), ("print", "a"))
     yield Row("print, and `a/c/1` is one byte short", does("cut", "a/c/1", 15), *error(13, key="a/c/1", got=15, want=16), words=("print", "a"))
-    yield Row("print, and `a/c/1` is a folder", does("folder", "a/c/1"), *error(16, key="a/c/1"), words=("print", "a"))
+    yield Row("print, and `a/c/1` is a folder", does("folder", "a/c/1"), 0, f"{head}\n1 2 3 4 0 0", set(), ("print", "a"))
     yield Row("print, and `a/c/1` is 8 GiB without blocks", does("sparse", "a/c/1"), *error(13, key="a/c/1", got=SPARSE, want=16), words=("print", "a"))
     yield Row("print, and `a/zarr.json` isn't JSON", does("put", "a/zarr.json", b"{"), *error(7, name="a", code=1), words=("print", "a"))
     for name, line in (("z", error(8, name="z")), ("_a", error(2, code=3)), ("-a", error(2, code=2))):
@@ -309,7 +316,7 @@ def of_others():
     yield copy("nothing", lambda room: None)
     yield copy("a file lies at `_cubed/y/0`", does("put", "_cubed/y/0"), *error(10, op=0, task=0), TEXTS)
     yield copy("a file lies at `_cubed/y/0/c/1/1`", does("put", "_cubed/y/0/c/1/1"), *error(9, key="_cubed/y/0/c/1/1"))
-    yield copy("a folder lies at `y/c/2/0`", does("folder", "y/c/2/0"), *error(16, key="y/c/2/0"))
+    yield copy("an empty folder lies at `y/c/2/0`", does("empty", "y/c/2/0"))
     yield copy("`m/c/0/3` is one byte short", does("cut", "m/c/0/3", 7), *error(13, key="m/c/0/3", got=7, want=8), TEXTS)
     yield copy("`m/c/0/3` is missing", does("remove", "m/c/0/3"))
 
@@ -353,18 +360,19 @@ def of_resume():
     yield after("all but the record is missing", ran(does("remove", "y"), does("remove", "_cubed/y/0")), *report(4), whole - {RECORD})
     yield after("the record is one byte short", ran(lambda room: room.cut(RECORD, os.path.getsize(room.path(RECORD)) - 1)), 14, None)
     yield after("the record is empty", ran(does("put", RECORD, b"")), *error(14, place=0))
-    yield after("the record is a folder", ran(does("folder", RECORD)), *error(16, key=RECORD))
+    yield after("the record is a folder", ran(does("folder", RECORD)), *error(15))
     yield after("another memory is allowed", ran(), *error(14, place=14), allowed="1601")
     yield after("`y/c/1` is missing, and the chunk in between one byte short", ran(does("remove", "y/c/1"), does("cut", f"{between}/1", 15)), *error(13, key=f"{between}/1", got=15, want=16))
     yield after("`y/c/1` is missing, and the chunk in between has other bytes", ran(does("remove", "y/c/1"), does("put", f"{between}/1", bytes(16))), *report(1), {"y/c/1"})
     yield after("`y/c/1` is missing, and `a/c/1` too", ran(does("remove", "y/c/1"), does("remove", "a/c/1")), *report(1), {"y/c/1"})
-    yield after("a folder lies at `y/c/1`", ran(does("folder", "y/c/1")), *error(16, key="y/c/1"))
+    yield after("a folder lies at `y/c/1`", ran(does("folder", "y/c/1")), *error(10, op=1, task=1))
+    yield after("an empty folder lies at `y/c/1`", ran(does("empty", "y/c/1")), *report(1), {"y/c/1"})
     yield after("everything is there", ran(), 0, "ok keys=6", whole, "drop")
     yield after("everything, and a file of a killed write", ran(does("put", "y/c/1.new7")), 0, "ok keys=6", whole, "drop")
     yield after("the record alone is there", ran(does("remove", "y"), does("remove", "_cubed/y/0")), 0, "ok keys=6", {RECORD}, "drop")
     yield after("there is no record", lambda room: None, *error(15), command="drop")
     yield after("another memory is allowed", ran(), *error(14, place=14), command="drop", allowed="1601")
-    yield after("a folder lies at `y/c/1`", ran(does("folder", "y/c/1")), *error(16, key="y/c/1"), {"y/zarr.json", f"{between}/0", f"{between}/1", "y/c/0"}, "drop")
+    yield after("a folder lies at `y/c/1`", ran(does("folder", "y/c/1")), 0, "ok keys=6", whole - {"y/c/1"}, "drop")
 
 
 def of_resume_over_others():
@@ -420,7 +428,7 @@ def of_drop_over_others():
     yield drops("files that aren't of the plan lie beside", ran(*[does("put", key) for key in ("y/c/2", "y/note", "_cubed/y/1/c/0", "_cubed/y/0/c/2", "_cubed/y/note")]))
     yield drops("standard output is full", ran(), *error(12), WHOLE, streams=(FULL,))
     yield drops("standard input is a folder", ran(), *error(11), streams=(FOLDER_IN,))
-    yield drops("`y/zarr.json` is a folder", ran(does("folder", "y/zarr.json")), *error(16, key="y/zarr.json"), set())
+    yield drops("`y/zarr.json` is a folder", ran(does("folder", "y/zarr.json")), changed=WHOLE - {"y/zarr.json"})
 
 
 DEMO_RECORD = "_cubed/demo_y/plan.json"
@@ -448,7 +456,8 @@ def of_demo():
     yield demo("a file lies at `_cubed`", does("put", "_cubed"), *error(16, key=DEMO_RECORD), inputs)
     yield demo("a file lies at `_cubed/demo_y/1`", does("put", "_cubed/demo_y/1"), *error(10, op=1, task=0),
                inputs | {DEMO_RECORD, "demo_y/zarr.json", "_cubed/demo_y/0/c/0/0"})
-    yield demo("a folder lies at `demo_y/c`", does("folder", "demo_y/c"), *error(16, key="demo_y/c"))
+    yield demo("a folder lies at `demo_y/c`", does("folder", "demo_y/c"), *error(10, op=3, task=0), DEMO - {"demo_y/c"})
+    yield demo("an empty folder lies at `demo_y/c`", does("empty", "demo_y/c"))
     yield demo("a named pipe lies at `demo_b/c/0/0`", does("pipe", "demo_b/c/0/0"))
     yield demo("a link at `demo_b/c/0/0` leads to a file elsewhere", lambda room: room.link("demo_b/c/0/0", os.path.join(room.beside, "chunk")))
     yield demo("standard output is full", lambda room: None, *error(12), DEMO, streams=(FULL,))
@@ -478,7 +487,7 @@ def of_version_2():
 
     yield reads("nothing", older())
     yield reads("`b/.zarray` is missing", older(does("remove", "b/.zarray")), *error(8, name="b"))
-    yield reads("`b/.zarray` is a folder", older(does("folder", "b/.zarray")), *error(16, key="b/.zarray"))
+    yield reads("`b/.zarray` is a folder", older(does("folder", "b/.zarray")), *error(8, name="b"))
     yield reads("a named pipe lies at `b/.zarray`", older(does("pipe", "b/.zarray")), *error(16, key="b/.zarray"))
     yield reads("8 GiB without blocks lie at `b/.zarray`", older(does("sparse", "b/.zarray")), 7, None)
     yield reads("a link at `b/.zarray` leads nowhere", older(does("link", "b/.zarray", "nowhere")), *error(8, name="b"))
@@ -486,13 +495,13 @@ def of_version_2():
     yield reads("a compressor is named", older(does("edit", "b/.zarray", b'"compressor":null', b'"compressor":{"id":"blosc"}')), *error(7, name="b", code=28))
     yield reads("the order is that of columns", older(does("edit", "b/.zarray", b'"order":"C"', b'"order":"F"')), *error(7, name="b", code=29))
     yield reads("`b/zarr.json` is there too, and isn't JSON", older(does("put", "b/zarr.json", b"{")), *error(7, name="b", code=1))
-    yield reads("`b/zarr.json` is a folder", older(does("folder", "b/zarr.json")), *error(16, key="b/zarr.json"))
+    yield reads("`b/zarr.json` is a folder", older(does("folder", "b/zarr.json")))
     yield reads("`b/0` is one byte short", older(does("cut", "b/0", 15)), *error(13, key="b/0", got=15, want=16), TEXTS)
     yield reads("`b/1` is missing", older(does("remove", "b/1")))
     yield reads("8 GiB without blocks lie at `b/1`", older(does("sparse", "b/1")), *error(13, key="b/1", got=SPARSE, want=16), FIRST)
     yield reads("a named pipe lies at `b/1`", older(does("pipe", "b/1")), *error(10, op=0, task=1), FIRST)
     yield reads("a file lies at `y/.zarray`", older(does("put", "y/.zarray")), *error(9, key="y/.zarray"))
-    yield reads("a folder lies at `y/.zarray`", older(does("folder", "y/.zarray")), *error(16, key="y/.zarray"))
+    yield reads("a folder lies at `y/.zarray`", older(does("folder", "y/.zarray")))
     yield reads("print", older(), 0, "int32 shape [6] chunk [4]\n10 20 30 40 50 60", set(), ("print", "b"))
     yield reads("print, and `b/0` is missing", older(does("remove", "b/0")), 0, "int32 shape [6] chunk [4]\n0 0 0 0 50 60", set(), ("print", "b"))
     yield reads("load, and a file lies at `c/.zarray`", does("put", "c/.zarray"), *error(9, key="c/.zarray"), words=("load",),
