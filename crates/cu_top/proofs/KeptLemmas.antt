@@ -135,7 +135,7 @@ module _ (laws : KeyLaws) (c : RunCase) where
         (used_is_name job.expr name planned.form uses) (used_differs job.expr name own uses) (sym is ∙ under)
 
     elsewhere : (first : Shown) → Within (CommandChange (job_run c job) first) (Elsewhere c.text)
-    elsewhere first key value (inl (q, bytes, piece, is, rest)) input = no_piece key q input piece is
+    elsewhere first key value (inl (q, bytes, piece, is, valued, rest)) input = no_piece key q input piece is
     elsewhere first key value (inr (q, piece, is, gone)) input = no_piece key q input piece is
 
     command_leaves : IsCommand (job_run c job) c.old.depot c.new.depot → LeavesInputs c.text c.old.depot c.new.depot

@@ -134,6 +134,7 @@ module _ (laws : TextLaws) (i : NodeInfo) (ok : IsInfo i) (name : List ℕ) wher
 
   held_as_made : (held : Contents) → held (metadata_key_of name) ≡ Some (metadata_text made)
       → IsArrayOf held name (made_layout i)
+  unfolding made
   held_as_made held at = record {
     grid = info_grid i ok;
     metadata = inl (
@@ -214,9 +215,8 @@ module _ (laws : TextLaws) (retries : ℕ) (old new : Scene) (text : List ℕ) (
   check_result answered start =
       let (said, read, (job, output, accepted, was, (like, few, (there, wrote)))) =
       answered.answers.ends in
-      let still = λ key bytes k among.
-      absurd (none_among old.depot.late key bytes start.settled among) in
-      let (all, equal) = there entry start.depot_holds still in
+      let (all, equal) = there entry start.depot_holds (λ key bytes k among.
+      absurd (none_among old.depot.late key bytes start.settled among)) in
       let calm = calm_at_rest old.depot (metadata_key_of output.name) start.settled in
       let found : HoldsLayout (Some entry) (metadata_key_of output.name) output.layout =
       subst (λ (h : Option Contents). HoldsLayout h (metadata_key_of output.name) output.layout)
