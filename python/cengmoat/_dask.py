@@ -23,10 +23,8 @@ class _Source:
         its = self.array.node.stored_as
         if its is None:
             return self.array[key].compute(progress=False)
-        from ._running import check_fresh
-        assert its.store is not None
-        check_fresh(its.store, its)
-        return its.store.read(its.members["name"], key, unfinished=its.takes_unfinished)
+        from ._running import read_node
+        return read_node(its, key)
 
 
 def to_dask(array: Array) -> Any:

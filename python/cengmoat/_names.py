@@ -1,13 +1,30 @@
 """Names of arrays, and the keys that belong to one."""
 from __future__ import annotations
 
+import os
 import re
-from typing import Any
+from typing import Any, Union
 
 NAME = re.compile(r"[A-Za-z0-9][A-Za-z0-9_.-]{0,31}\Z")
+ADDRESS = re.compile(r"[A-Za-z][A-Za-z0-9+.:-]*://")
 # The names that the package gives itself: of what is stored while one call runs, and is removed at its end.
 TEMPORARY, IN_MEMORY = "tmp-cengmoat-", "data-cengmoat-"
 OWN = re.compile(rf"({TEMPORARY}[0-9a-f]{{10}}(-[0-9]{{1,3}})?|{IN_MEMORY}[0-9a-f]{{18}})\Z")
+
+
+def as_folder(value: Union[str, os.PathLike[str]]) -> str:
+    """Return the absolute path of a folder of this machine.
+
+    Raises
+    ------
+    ValueError
+        Where it is the address of a store of objects or of another service.
+    """
+    path = os.fspath(value)
+    if isinstance(path, str) and ADDRESS.match(path):
+        raise ValueError(f"{path} is no folder: the program reads and writes files of this machine. Fetch the arrays into a folder once, as by"
+                         " store.save(\"t\", zarr.open(..)[\"t\"]), which reads a chunk at a time, or mount what lies there as a folder")
+    return os.path.abspath(os.path.expanduser(path))
 
 
 def is_name(value: Any) -> bool:
