@@ -5,6 +5,7 @@ import os
 import re
 from typing import Any, Union
 
+MOST_LETTERS = 32
 NAME = re.compile(r"[A-Za-z0-9][A-Za-z0-9_.-]{0,31}\Z")
 ADDRESS = re.compile(r"[A-Za-z][A-Za-z0-9+.:-]*://")
 # The names that the package gives itself: of what is stored while one call runs, and is removed at its end.
@@ -45,9 +46,19 @@ def check_name(value: Any) -> str:
     if not isinstance(value, str):
         raise TypeError(f"{value!r} isn't a name: a name is a text")
     if not is_name(value):
-        raise ValueError(f"{value!r} isn't a name: a name has 1 to 32 of the letters A to Z and a to z, digits, _, - and .,"
-                         " and begins with a letter or a digit")
+        short = _short(value)
+        length = f" of {len(value)} letters" if len(value) > MOST_LETTERS else ""
+        raise ValueError(f"{value!r}{length} isn't a name: a name has 1 to 32 of the letters A to Z and a to z, digits, _, - and .,"
+                         f" and begins with a letter or a digit{f', as {short!r}' if short else ''}")
     return value
+
+
+def _short(value: str) -> str:
+    """Return a name that is like a text which isn't one, or nothing where no letter of it is left."""
+    plain = re.sub(r"[^A-Za-z0-9_.-]+", "_", value).lstrip("_.-")
+    # (of a long text the ends are kept: names that a script makes differ behind)
+    half = MOST_LETTERS // 2
+    return (plain if len(plain) <= MOST_LETTERS else f"{plain[:half - 1]}-{plain[-half:]}").rstrip("_.-")
 
 
 def is_own(value: Any) -> bool:

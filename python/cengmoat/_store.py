@@ -21,6 +21,7 @@ from ._links import check_unlinked, has_array, is_below
 from ._locks import locked
 from ._metadata import MOST_LEVELS, MOST_TEXT, Metadata, is_readable
 from ._names import as_folder, check_free_name, check_name
+from ._mounts import reports_late
 from ._nodes import Node
 from ._offers import offers_words
 from ._plans import Report
@@ -29,6 +30,7 @@ from ._removing import Removal
 from ._saving import check_absent, write_array
 from ._shapes import ChunksLike, as_chunks, check_limits
 from ._sizes import as_bytes
+from ._sources import own_chunks
 from ._status import Status, all_names, array_names, check_finished, metadata_of, status_of
 from ._temporary import remove_names, uninterrupted
 
@@ -165,7 +167,7 @@ class Store(Mapping[str, Array]):
     def words(self, command: str, folder: Optional[str] = None, is_temporary: bool = False, fusion: Optional[int] = None) -> list[str]:
         """Return the words of a call of the program, over another folder and with another `fusion` where one is given.
 
-        What is temporary isn't written to the disk before it has its name, where the program offers that.
+        What is temporary isn't written to the disk before it has its name, where the program offers that and the folder tells errors at once.
         """
         found = [self.program, self.folder if folder is None else folder, command]
         if command != "check":
@@ -177,7 +179,7 @@ class Store(Mapping[str, Array]):
             found += ["--retries", str(self.retries)]
         if command in ("run", "resume") and self.workers != 1:
             found += ["--workers", str(self.workers)]
-        if is_temporary and offers_words(self.program, command, "--sync", "0"):
+        if is_temporary and offers_words(self.program, command, "--sync", "0") and not reports_late(self.folder):
             found += ["--sync", "0"]
         return found
 
@@ -277,7 +279,7 @@ class Store(Mapping[str, Array]):
             An array of integers or truth values. Of one that has `shape`, `dtype` and slices (a memory map, an array of another
             library) only a chunk at a time is in memory.
         chunks : int or tuple of int, optional
-            The chunk shape; -1 means the whole axis. Else chunks of at most about 16 MiB.
+            The chunk shape; -1 means the whole axis. Else that of an array of Zarr, Dask or xarray, or chunks of at most about 16 MiB.
         dims : sequence of str, optional
             The names of the axes; else those of the data, if it is an array of xarray.
         attrs : mapping, optional
@@ -303,7 +305,7 @@ class Store(Mapping[str, Array]):
         except NotImplementedError as error:
             raise TypeError(str(error)) from None
         shape = tuple(int(size) for size in data.shape)
-        sides = as_chunks(chunks, shape, dtype)
+        sides = as_chunks(own_chunks(data, shape, dtype) if chunks is None else chunks, shape, dtype)
         check_limits(shape, sides, dtype, "save")
         meta = Metadata(dtype, shape, sides, dimensions=_dims(data, dims, len(shape)), attributes=_attrs(data, attrs))
         if len(meta.text()) > MOST_TEXT:
