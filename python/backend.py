@@ -34,6 +34,14 @@ def _settings() -> dict[str, str]:
     return dict(re.findall(r'^([\w-]+) = "(.*)"$', table, re.M))
 
 
+def _scripts() -> str:
+    """Return the commands that pip installs, as a wheel says them."""
+    with open(os.path.join(HERE, "pyproject.toml"), encoding="utf-8") as file:
+        table = file.read().partition("[project.scripts]")[2].partition("\n[")[0]
+    found = re.findall(r'^([\w-]+) = "(.*)"$', table, re.M)
+    return "\n".join(["[console_scripts]", *(f"{name} = {call}" for name, call in found), ""])
+
+
 def _lists(name: str, table: str = "project") -> list[str]:
     with open(os.path.join(HERE, "pyproject.toml"), encoding="utf-8") as file:
         text = file.read().partition(f"[{table}]")[2].partition("\n[")[0]
@@ -98,6 +106,7 @@ class _Wheel:
         self.put(f"{info}/METADATA", _metadata(self.settings).encode())
         pure = "true" if self.is_pure else "false"
         self.put(f"{info}/WHEEL", f"Wheel-Version: 1.0\nGenerator: cengmoat\nRoot-Is-Purelib: {pure}\nTag: {self.tag}\n".encode())
+        self.put(f"{info}/entry_points.txt", _scripts().encode())
         self.rows.append(f"{info}/RECORD,,")
         self.file.writestr(zipfile.ZipInfo(f"{info}/RECORD", EPOCH), "\n".join(self.rows) + "\n")
         self.file.close()

@@ -5,6 +5,7 @@ from types import ModuleType
 from typing import TYPE_CHECKING, Any, Iterator, Literal, Mapping, Optional, Union, overload
 
 from . import _build as build, _views as views
+from ._callers import refuse_groups
 from ._collection import Collection
 from ._dtypes import DType, NDArray, as_dtype
 from ._labels import labels_of
@@ -143,6 +144,7 @@ class Array(Refused, Collection, Operators):
     # Views
 
     def __getitem__(self, key: Any) -> Array:
+        refuse_groups()
         return Array(views.index(self.node, key))
 
     @overload
@@ -304,6 +306,15 @@ class Array(Refused, Collection, Operators):
         """Return the operations by which the array would be computed, with their tasks, memory and bytes."""
         from ._running import plan_node
         return plan_node(self.node, store)
+
+    def to_dask(self) -> Any:
+        """Return an array of Dask with the same chunks, for what floats alone can do, as `x.to_dask().mean()`.
+
+        Its chunks are arrays of NumPy. Those of a stored array are read one by one; each of those of an expression is a run of its own.
+        An ImportError where Dask isn't installed.
+        """
+        from ._dask import to_dask
+        return to_dask(self)
 
     def __array__(self, dtype: Any = None, copy: Optional[bool] = None) -> NDArray:
         found = self.compute()

@@ -32,7 +32,7 @@ def _is_written() -> bool:
 def token_of(node: Node) -> str:
     """Return a text that is the same for the same expression over the same folder."""
     graph = Graph(node)
-    digest = hashlib.sha256(repr((graph.text("x"), None if node.store is None else node.store.folder)).encode())
+    digest = hashlib.sha256(repr((graph.text("x"), [it.folder for it in graph.nodes])).encode())
     for it in graph.nodes:
         if it.data is not None:
             digest.update(it.data.tobytes())

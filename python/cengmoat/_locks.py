@@ -16,7 +16,7 @@ import time
 from typing import Any, Iterator, Optional, Sequence
 
 from ._opening import check_regular, refused, told
-from .errors import Locked
+from .errors import Locked, StoreFailed
 
 # Names of arrays have no dot in front, so no array is called so.
 FOLDER = ".locks"
@@ -129,6 +129,9 @@ def _opened(folder: str, name: str) -> _File:
             file = _File(folder, name)
             break
         except OSError as error:
+            if error.errno in (errno.EACCES, errno.EPERM, errno.EROFS):
+                raise StoreFailed(f"{folder} may only be read: {error.strerror}. Write cengmoat.Store({folder!r}, work=\"scratch/mine\"),"
+                                  " which computes and stores in the folder that work= names", key=_key(name)) from None
             # (another process may just have removed the folder of the locks)
             if not left or not isinstance(error, FileNotFoundError):
                 raise told(_key(name), error) from None

@@ -49,7 +49,7 @@ def call_ufunc(ufunc: np.ufunc, method: str, inputs: Sequence[Any], options: dic
     NotImplementedError
         Where there is no such function.
     """
-    from ._operators import operand
+    from ._operators import of_float, operand
     if any(it is not None for it in options.pop("out", ())):
         raise TypeError(f"an array in memory isn't changed by a lazy one: x.compute() computes it, as in {ufunc.__name__}(a, x.compute(), out=a)")
     if method == "reduce" and ufunc in REDUCED:
@@ -57,6 +57,9 @@ def call_ufunc(ufunc: np.ufunc, method: str, inputs: Sequence[Any], options: dic
     name = ufunc.__name__ if method == "__call__" else f"{ufunc.__name__}.{method}"
     if options:
         raise TypeError(f"numpy.{name} of lazy arrays has no {', '.join(options)}: x.astype converts, and xp.where chooses")
+    found = of_float(UFUNCS.get(ufunc, ""), *inputs) if method == "__call__" and len(inputs) == 2 else None
+    if found is not None:
+        return _array(found)
     if any(operand(it) is NotImplemented for it in inputs):
         return NotImplemented
     if method == "__call__" and ufunc is np.divmod:

@@ -10,6 +10,7 @@ import re
 from typing import TYPE_CHECKING, Any, Callable, Mapping, NamedTuple, Optional, Sequence
 
 from ._part import Ended, run_part
+from ._program import LOG
 from .errors import NotReady, Stopped, error_of
 
 if TYPE_CHECKING:
@@ -130,6 +131,8 @@ class Engine:
             why = ""
         except Exception as error:
             ended, why = None, f"{type(error).__name__}: {error}"
+        if ended is not None:
+            LOG.info("part of operation %d, tasks %d to %d: status %d in %.3f s", part.step, part.start, part.stop - 1, ended.status, ended.seconds)
         if ended is not None and ended.status == 0:
             self.done[part.step] = self.done.get(part.step, 0) + part.stop - part.start
             fitting = int((part.stop - part.start) * SECONDS / max(ended.seconds, 0.01))

@@ -16,10 +16,11 @@ from ._fit import fitting_chunks
 from ._index import read_index
 from ._labels import labels_of
 from ._left import telling, with_cause
+from ._links import check_unlinked, is_linked, link_inputs, link_names
 from ._locks import locked
 from ._metadata import MOST_TEXT, Metadata
 from ._names import check_free_name, check_name, is_own, metadata_key, record_key
-from ._nodes import MOST_NODES, Graph, Node, expression
+from ._nodes import MOST_NODES, Graph, Node, expression, in_order
 from ._offers import offers_words
 from ._opening import at_most, read_regular
 from ._parts import Engine, read_steps
@@ -42,7 +43,7 @@ LABEL = 32
 
 
 def store_of(node: Node, store: Optional[Store]) -> Store:
-    """Return the store of an expression.
+    """Return the store of an expression, as one whose folder is that in which it works.
 
     Raises
     ------
@@ -52,10 +53,12 @@ def store_of(node: Node, store: Optional[Store]) -> Store:
     if store is None:
         if node.store is None:
             raise ValueError("no stored array is in this expression: say store=, where its result is to be stored")
-        return node.store
-    if node.store is not None and node.store.folder != store.folder:
-        raise ValueError(f"the expression is over arrays of {node.store.folder}, and not of {store.folder}")
-    return store
+        return node.store.working()
+    far = next((it.folder for it in in_order(node) if it.op == "input" and it.folder != store.folder), None) if store.work is None else None
+    if far is not None:
+        raise ValueError(f"the expression is over arrays of {far}, and not of {store.folder} alone. Write cengmoat.Store({store.folder!r},"
+                         " work=\"scratch/mine\"), which runs those over several folders")
+    return store.working()
 
 
 @contextlib.contextmanager
@@ -69,15 +72,16 @@ def _some_store(node: Node, store: Optional[Store]) -> Iterator[Store]:
         yield Store(folder)
 
 
-def _graph(node: Node, name: str) -> Graph:
-    """Return the expression of a node that is stored under a name.
+def _graph(node: Node, name: str, store: Optional[Store]) -> Graph:
+    """Return the expression of a node that is stored under a name by a store, or by that of its arrays.
 
     Raises
     ------
     BadExpression
         Where it has more than 256 nodes.
     """
-    graph = Graph(node, memory_names(node, name))
+    found = node.store if store is None else store
+    graph = Graph(node, {**memory_names(node, name), **({} if found is None else link_names(node, found.working()))})
     if len(graph.nodes) > MOST_NODES:
         raise BadExpression(code=7, node=0, advice=f"This expression has {len(graph.nodes)} different nodes, and {MOST_NODES} are allowed:"
                             " y = x.store(\"part\") computes a part of it and gives it as a stored array, with which to go on.")
@@ -99,7 +103,7 @@ def check_fresh(store: Store, node: Node) -> None:
         Where another array was stored under its name.
     """
     name = node.members["name"]
-    now = metadata_of(store.folder, name)
+    now = metadata_of(node.folder or store.folder, name)
     if now is None:
         raise NoArray(name=name)
     if now != node.meta:
@@ -122,10 +126,23 @@ def _check_fresh(store: Store, graph: Graph) -> None:
 
 
 def _check_inputs(store: Store, graph: Graph) -> None:
-    """Refuse inputs that were replaced, or that a run has begun and not finished, unless they were asked for as they are."""
+    """Refuse inputs that were replaced, or that a run has begun and not finished, unless they were asked for as they are; and link the others
+    of a work folder."""
     _check_fresh(store, graph)
-    for name in dict.fromkeys(node.members["name"] for node in graph.stored if not node.takes_unfinished):
-        check_finished(store.folder, name)
+    for folder, name in dict.fromkeys((node.folder, node.members["name"]) for node in graph.stored if not node.takes_unfinished):
+        check_finished(folder or store.folder, name)
+    link_inputs(store, graph)
+
+
+def read_node(its: Node, key: Any = ...) -> NDArray:
+    """Return elements of a stored array, as `Store.read`, or refuse one that was replaced."""
+    name, meta = its.members["name"], its.meta
+    assert its.store is not None and its.folder is not None and meta is not None
+    check_fresh(its.store, its)
+    if not its.takes_unfinished:
+        check_finished(its.folder, name)
+    found = read_index_of(its.folder, name, meta, read_index(key, meta.shape))
+    return found != 0 if meta.is_truth else found
 
 
 def _ask_plan(store: Store, folder: str, graph: Graph, text: str, fusion: Optional[int] = None) -> Plan:
@@ -147,22 +164,22 @@ def _advised(store: Store, graph: Graph, text: str) -> Iterator[None]:
 def _layouts(store: Store, graph: Graph) -> dict[str, Metadata]:
     """Return the layouts of all inputs, of arrays in memory too."""
     found = {name: _layout(node) for name, node in memory_nodes(graph).items()}
-    for name in graph.inputs:
-        meta = metadata_of(store.folder, name)
+    for node, text in zip(graph.nodes, graph.texts):
+        meta = metadata_of(node.folder or store.folder, node.members["name"]) if node.op == "input" else None
         if meta is not None:
-            found[name] = meta
+            found[text["name"]] = meta
     return found
 
 
 def plan_node(node: Node, store: Optional[Store], fusion: Optional[int] = None) -> Plan:
     """Return the plan of an expression, with another `fusion` than the store's where one is given. Nothing is stored."""
-    graph = _graph(node, "plan")
+    graph = _graph(node, "plan", store)
     text = graph.text("plan")
     with _some_store(node, store) as found, telling("x.plan()", found.folder, "plan", True), _advised(found, graph, text):
         _check_fresh(found, graph)
-        if not any(it.op == "data" for it in graph.nodes):
+        if not any(it.op == "data" for it in graph.nodes) and not is_linked(found, graph):
             return _ask_plan(found, found.folder, graph, text, fusion)
-        # Metadata suffices, so arrays in memory aren't stored for it.
+        # Metadata suffices, so arrays in memory aren't stored for it, and no links are made.
         with tempfile.TemporaryDirectory(prefix="cengmoat-") as folder:
             for name, meta in _layouts(found, graph).items():
                 write_file(folder, metadata_key(name), meta.text().encode(), sync=False)
@@ -186,7 +203,7 @@ def _run(store: Store, graph: Graph, name: str, lock: int, progress: Optional[bo
         finally:
             if bar is not None:
                 bar.close(is_done)
-    store.report = read_report(said)
+    store.report = store.owner.report = read_report(said)
     return store.report
 
 
@@ -249,10 +266,11 @@ def store_node(node: Node, name: str, store: Optional[Store], progress: Optional
     """Store an expression under a name, and return the stored array's node."""
     check_free_name(name)
     found = store_of(node, store)
-    graph = _graph(node, name)
+    check_unlinked(found, name)
+    graph = _graph(node, name, store)
     fusion = _fusion_of(found, name) if resume else found.fusion
     if explain:
-        print(plan_node(node, found, fusion))
+        print(plan_node(node, found.owner, fusion))
     with telling(f"x.store({name!r})", found.folder, name), locked(found.folder, name) as lock:
         _check_inputs(found, graph)
         goes_on = resume and has_record(found.folder, name)
@@ -267,7 +285,7 @@ def store_node(node: Node, name: str, store: Optional[Store], progress: Optional
         _label(found.folder, name, node)
         if not keep:
             remove_between(found.folder, name)
-    return found.array(name).node
+    return found.owner.array(name).node
 
 
 def _label(folder: str, name: str, node: Node) -> None:
@@ -286,7 +304,7 @@ def check_node(node: Node, name: str, store: Optional[Store]) -> int:
     """Compare a stored array with an expression, and return the count of its elements."""
     check_name(name)
     found = store_of(node, store)
-    graph = _graph(node, name)
+    graph = _graph(node, name, store)
     with telling(f"x.check({name!r})", found.folder, name, True):
         _check_inputs(found, graph)
         check_finished(found.folder, name)
@@ -311,12 +329,11 @@ def compute_node(node: Node, store: Optional[Store], progress: Optional[bool], e
     with _some_store(node, store) as found:
         its = node.stored_as
         if its is not None:
-            check_fresh(found, its)
-            return found.read(its.members["name"], unfinished=its.takes_unfinished)
+            return read_node(its)
         if explain:
-            print(plan_node(node, found))
+            print(plan_node(node, found.owner))
         name = new_name(found.folder)
-        graph = _graph(node, name)
+        graph = _graph(node, name, found.owner)
         with telling("x.compute()", found.folder, name, True):
             return _computed(found, graph, name, progress)
 

@@ -255,7 +255,7 @@ class BadInput(Case):
                      lambda: np.pad(x, 1.5), lambda: np.pad(x, "1"), lambda: np.pad(x, True),
                      lambda: x == [0, 1, 2], lambda: x != (0, 1, 2), lambda: [0, 1, 2] == x, lambda: x == range(3), lambda: x != Fraction(1, 2),
                      lambda: x == Decimal(1), lambda: [1, 2] < x, lambda: np.equal(x, [1]), lambda: xp.add(x, [1]),
-                     lambda: x == 0.5, lambda: x == "a", lambda: x < None, lambda: x.sum(keepdims=1), lambda: xp.add(1, 2), lambda: x + [1, 2],
+                     lambda: x == float("nan"), lambda: x < float("inf"), lambda: x + 0.5, lambda: truth == 0.5, lambda: x == "a", lambda: x < None, lambda: x.sum(keepdims=1), lambda: xp.add(1, 2), lambda: x + [1, 2],
                      lambda: xp.sum([1, 2]), lambda: x.astype("uint64") + x, lambda: truth < truth, lambda: -truth, lambda: x.argmax(axis=(0,)),
                      lambda: hash(x), lambda: xp.sum(x, dtype="bool"), lambda: cengmoat.compute(3), lambda: cengmoat.to_zarr(3, "a"),
                      lambda: len(x.sum()), lambda: xp.arange(3, dtype="bool"), lambda: truth @ truth, lambda: range(x), lambda: list(x.sum())):
