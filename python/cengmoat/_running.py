@@ -22,6 +22,7 @@ from ._names import check_free_name, check_name, is_own, metadata_key, record_ke
 from ._nodes import MOST_NODES, Graph, Node, expression
 from ._offers import offers_words
 from ._opening import at_most, read_regular
+from ._packing import missing_of
 from ._parts import Engine, read_steps
 from ._plans import Plan, Report, read_plan, read_report
 from ._program import call_program
@@ -271,13 +272,17 @@ def store_node(node: Node, name: str, store: Optional[Store], progress: Optional
 
 
 def _label(folder: str, name: str, node: Node) -> None:
-    """Write the names of axes and the attributes of a result into its metadata, where it has any."""
+    """Write the names of axes and the attributes of a result into its metadata, where it has any, and the number for what is missing."""
     meta = metadata_of(folder, name)
     names, attributes = labels_of(node)
     dimensions = names if any(names) else None
-    if meta is None or (meta.dimensions, dict(meta.attributes)) == (dimensions, attributes):
+    if meta is None:
         return
-    text = replace(meta, dimensions=dimensions, attributes=attributes).text().encode()
+    # (a chunk that is lost later on is missing, and no number)
+    fill = next(iter(missing_of(attributes, meta.dtype)), meta.fill)
+    if (meta.dimensions, dict(meta.attributes), meta.fill) == (dimensions, attributes, fill):
+        return
+    text = replace(meta, dimensions=dimensions, attributes=attributes, fill=fill).text().encode()
     if len(text) <= MOST_TEXT:
         write_file(folder, metadata_key(name), text)
 

@@ -6,6 +6,7 @@ from typing import Any, Optional
 from .. import _build as build
 from .._array import Array
 from .._dtypes import BOOL, INT64
+from .._missing import kept_missing
 from .._nodes import Node
 from .._operators import scalar_node
 from ._common import VALUES, Argument, lacks, node_of, node_or_literal
@@ -36,6 +37,9 @@ def argmin(x: Array, /, *, axis: Optional[int] = None, keepdims: bool = False) -
 def where(condition: Array, x1: Argument, x2: Argument, /) -> Array:
     """Return the elements of x1 where the condition is true, and those of x2 elsewhere.
 
+    Where one of both is a number, what is missing in the other stays missing, unless the condition compares with the number that stands
+    for it: see ``Array.fill_missing``.
+
     Parameters
     ----------
     condition : Array
@@ -53,7 +57,9 @@ def where(condition: Array, x1: Argument, x2: Argument, /) -> Array:
     args = [node_or_literal(x1, "x1"), node_or_literal(x2, "x2")]
     if not any(isinstance(arg, Node) for arg in args):
         args[0] = scalar_node(args[0], BOOL if isinstance(args[0], bool) else INT64)
-    return Array(build.where(node_of(condition, "condition"), args[0], args[1]))
+    holds, chosen = node_of(condition, "condition"), [arg for arg in args if isinstance(arg, Node)]
+    found = build.where(holds, args[0], args[1])
+    return Array(kept_missing(found, chosen, holds) if len(chosen) == 1 else found)
 
 
 def nonzero(x: Array, /) -> tuple[Array, ...]:
