@@ -85,12 +85,10 @@ def attributes_of(node: Node, args: Sequence[Optional[Attributes]]) -> Optional[
 
 def missing_of(attributes: Mapping[str, Any], dtype: DType) -> tuple[int, ...]:
     """Return the numbers that stand for what is missing, as `_FillValue` and `missing_value` say; one that the type hasn't is none."""
-    found = []
-    for name in MISSING:
-        value = attributes.get(name)
+    found: list[int] = []
+    for value in (attributes.get(name) for name in MISSING) if dtype.kind != "b" else ():
         if isinstance(value, float) and value.is_integer():
             value = int(value)
-        is_one = isinstance(value, int) and not isinstance(value, bool) and dtype.kind != "b"
-        if is_one and value not in found and least(dtype) <= value <= greatest(dtype):  # type: ignore[operator]
+        if isinstance(value, int) and not isinstance(value, bool) and value not in found and least(dtype) <= value <= greatest(dtype):
             found.append(value)
     return tuple(found)

@@ -171,8 +171,8 @@ def plan_node(node: Node, store: Optional[Store], fusion: Optional[int] = None) 
 
 
 def _run(store: Store, graph: Graph, name: str, lock: int, progress: Optional[bool], command: str = "run",
-         fusion: Optional[int] = None) -> Report:
-    """Run an expression whose arrays in memory are stored, and return the report."""
+         fusion: Optional[int] = None, is_kept: bool = True) -> Report:
+    """Run an expression whose arrays in memory are stored, and return the report. What isn't kept needn't be on the disk."""
     text = graph.text(name)
     bar, is_done = None, False
     most = max(node.chunk_bytes for node in graph.nodes)
@@ -181,7 +181,7 @@ def _run(store: Store, graph: Graph, name: str, lock: int, progress: Optional[bo
             label = expression(graph.nodes[graph.out], LABEL) if is_own(name) else name
             bar = Bar(store.folder, name, _ask_plan(store, store.folder, graph, text, fusion), label)
         try:
-            said = call_program(store.words(command, is_temporary=is_own(name), fusion=fusion), text, expression_of=graph.expression,
+            said = call_program(store.words(command, is_temporary=not is_kept, fusion=fusion), text, expression_of=graph.expression,
                                 locks=[lock], watch=None if bar is None else bar.watch)
             is_done = True
         finally:
@@ -328,13 +328,43 @@ def compute_node(node: Node, store: Optional[Store], progress: Optional[bool], e
 
 def _computed(store: Store, graph: Graph, name: str, progress: Optional[bool]) -> NDArray:
     """Run an expression under a temporary name, and read its result."""
+    with _ran(store, graph, name, progress, False) as found:
+        return read_index_of(store.folder, name, found, read_index(..., found.shape), is_whole=True)
+
+
+@contextlib.contextmanager
+def _ran(store: Store, graph: Graph, name: str, progress: Optional[bool], is_kept: bool) -> Iterator[Metadata]:
+    """Run an expression under a temporary name, and give the layout of its result, which is removed afterwards."""
     _check_inputs(store, graph)
     sweep(store.folder)
     node = graph.nodes[graph.out]
     with locked(store.folder, name, remove=True) as lock, memory_stored(store.folder, graph, lock, [name]):
-        _run(store, graph, name, lock.descriptor, progress)
+        _run(store, graph, name, lock.descriptor, progress, is_kept=is_kept)
         found = metadata_of(store.folder, name)
         if found != _layout(node):
             raise Unfinished(f"the run has ended, and its result is {said_of(found)}, and not {said_of(_layout(node))}:"
                              " another program removed or replaced its files")
-        return read_index_of(store.folder, name, found, read_index(..., node.shape), is_whole=True)
+        assert found is not None
+        yield found
+
+
+@contextlib.contextmanager
+def result_of(node: Node, progress: Optional[bool], call: str) -> Iterator[tuple[str, str, Metadata, bool]]:
+    """Give the folder, name and layout of the stored array of an expression, and whether its files are the package's own and may be moved.
+
+    A stored array is given as it is. Any other is computed by one run, and what of it wasn't moved is removed afterwards.
+    """
+    with _some_store(node, None) as found:
+        its = node.stored_as
+        if its is not None:
+            with telling(call, found.folder, its.members["name"], True):
+                check_fresh(found, its)
+                if not its.takes_unfinished:
+                    check_finished(found.folder, its.members["name"])
+                assert its.meta is not None
+                yield found.folder, its.members["name"], its.meta, False
+            return
+        name = new_name(found.folder)
+        graph = _graph(node, name)
+        with telling(call, found.folder, name, True), _ran(found, graph, name, progress, True) as meta:
+            yield found.folder, name, meta, True

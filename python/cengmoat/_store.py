@@ -5,7 +5,7 @@ import contextlib
 import difflib
 import json
 import os
-from typing import Any, Iterator, Mapping, NoReturn, Optional, Sequence, Union
+from typing import Any, ItemsView, Iterator, Mapping, NoReturn, Optional, Sequence, Union, ValuesView
 
 import numpy as np
 
@@ -22,9 +22,10 @@ from ._names import check_free_name, check_name
 from ._nodes import Node
 from ._offers import offers_words
 from ._plans import Report
+from ._readable import ReadableItems, ReadableValues, readable
 from ._program import find_program
 from ._removing import Removal
-from ._saving import check_absent, write_array
+from ._saving import check_absent, write_array, write_group
 from ._shapes import ChunksLike, as_chunks, check_limits
 from ._sizes import as_bytes
 from ._status import Status, all_names, array_names, check_finished, metadata_of, status_of
@@ -169,6 +170,18 @@ class Store(Mapping[str, Array]):
     def __contains__(self, name: object) -> bool:
         return name in self.names()
 
+    def items(self) -> ItemsView[str, Array]:
+        """Return the names with their lazy arrays, without those that can't be read; `unread` says why they can't."""
+        return ReadableItems(self)
+
+    def values(self) -> ValuesView[Array]:
+        """Return the lazy arrays of `items`."""
+        return ReadableValues(self)
+
+    def unread(self) -> dict[str, str]:
+        """Return why each array that `items` passes over can't be read, by name: as compressed, of floats, or unfinished."""
+        return {name: why for name, _, why in readable(self) if why}
+
     # (two stores are the same if they are one object: their arrays aren't compared)
     __eq__ = object.__eq__
     __hash__ = object.__hash__
@@ -277,6 +290,7 @@ class Store(Mapping[str, Array]):
         with telling(f"store.save({name!r}, ..)", self.folder, name, True), locked(self.folder, name):
             check_absent(self.folder, name)
             write_array(self.folder, name, meta, data)
+            write_group(self.folder)
         return self.array(name)
 
     def read(self, name: str, index: Any = ..., *, unfinished: bool = False) -> NDArray:

@@ -5,13 +5,17 @@ function of the program folds all groups in one pass.
 """
 from __future__ import annotations
 
-from typing import Any, Callable, Union
+from typing import Any, Callable, Optional, Union
 
 import numpy as np
 import xarray
 
 from . import _groups as groups
 from ._array import Array
+from ._xarray_open import open_dataset
+from ._xarray_write import DatasetAccessor, Path, write_array_of
+
+__all__ = ["Accessor", "DatasetAccessor", "Groups", "open_dataset"]
 
 
 class Groups:
@@ -87,3 +91,10 @@ class Accessor:
             raise ValueError("groupby: labels are an array of xarray along one axis of the array, or the name of one")
         name = group.rpartition(".")[2] if isinstance(group, str) else str(labels.name or "group")
         return Groups(self.array, labels, name)
+
+    def to_zarr(self, path: Path, name: Optional[str] = None, *, zarr_format: Optional[int] = None, progress: Optional[bool] = None) -> None:
+        """Compute the array by one run and write it to a folder with its coordinates, so that `xarray.open_zarr(path)` opens it.
+
+        As `DatasetAccessor.to_zarr`, of one array; `name` is the array's, else the one that it has.
+        """
+        write_array_of(self.array, path, name, zarr_format, progress)
