@@ -6,6 +6,7 @@ from typing import TYPE_CHECKING, Any, Iterator, Mapping, Optional, Sequence, Un
 
 from ._dtypes import DType, Literal, NDArray
 from ._shapes import Shape, product
+from .errors import BadExpression
 
 if TYPE_CHECKING:
     from ._metadata import Metadata
@@ -45,9 +46,16 @@ class Node:
         Of an input, whether it is used also where the run that makes it hasn't finished.
     meta : Metadata or None
         Of an input, the layout that was read when it was made.
+    count : int
+        At most how many different nodes its expression has, itself included.
+
+    Raises
+    ------
+    BadExpression
+        Where its expression has more than 256 different nodes.
     """
 
-    __slots__ = ("op", "args", "members", "dtype", "shape", "chunks", "store", "data", "takes_unfinished", "meta")
+    __slots__ = ("op", "args", "members", "dtype", "shape", "chunks", "store", "data", "takes_unfinished", "meta", "count")
 
     def __init__(self, op: str, args: Sequence[Union[Node, Literal]], members: Mapping[str, Any], dtype: DType, shape: Shape,
                  chunks: Shape) -> None:
@@ -63,6 +71,11 @@ class Node:
             elif arg.store is not None and arg.store.folder != self.store.folder:
                 raise ValueError(f"{op} of arrays of two stores, {self.store.folder} and {arg.store.folder}:"
                                  " an expression is over one folder")
+        # (each of the arguments' nodes may stand in several of them, so they are counted only where the sum is above the limit)
+        self.count: int = 1 + sum(arg.count for arg in self.arrays)
+        if self.count > MOST_NODES:
+            self.count = len(Graph(self).nodes)
+            check_count(self.count)
 
     @classmethod
     def stored(cls, store: Store, name: str, meta: Metadata, takes_unfinished: bool) -> Node:
@@ -106,6 +119,13 @@ class Node:
     def chunk_bytes(self) -> int:
         """The bytes of a chunk."""
         return product(self.chunks) * self.dtype.itemsize
+
+
+def check_count(count: int) -> None:
+    """Refuse an expression of more than 256 different nodes, by BadExpression."""
+    if count > MOST_NODES:
+        raise BadExpression(code=7, node=0, advice=f"This expression has {count} different nodes, and {MOST_NODES} are allowed:"
+                            " y = x.store(\"part\") computes a part of it and gives it as a stored array, with which to go on.")
 
 
 def _restored(rows: list[tuple[list[tuple[bool, Any]], dict[str, Any]]]) -> Node:

@@ -10,7 +10,7 @@ from dataclasses import replace
 from typing import TYPE_CHECKING, Any, Iterator, Mapping, Optional
 
 from ._dtypes import NDArray
-from .errors import BadExpression, NoArray, OtherPlan, OverMemory, Stale, Unfinished, strange
+from .errors import NoArray, OtherPlan, OverMemory, Stale, Unfinished, strange
 from ._files import read_index_of, write_file
 from ._fit import fitting_chunks
 from ._index import read_index
@@ -19,7 +19,7 @@ from ._left import telling, with_cause
 from ._locks import locked
 from ._metadata import MOST_TEXT, Metadata
 from ._names import check_free_name, check_name, is_own, metadata_key, record_key
-from ._nodes import MOST_NODES, Graph, Node, expression
+from ._nodes import Graph, Node, check_count, expression
 from ._offers import offers_words
 from ._opening import at_most, read_regular
 from ._packing import missing_of
@@ -79,9 +79,7 @@ def _graph(node: Node, name: str) -> Graph:
         Where it has more than 256 nodes.
     """
     graph = Graph(node, memory_names(node, name))
-    if len(graph.nodes) > MOST_NODES:
-        raise BadExpression(code=7, node=0, advice=f"This expression has {len(graph.nodes)} different nodes, and {MOST_NODES} are allowed:"
-                            " y = x.store(\"part\") computes a part of it and gives it as a stored array, with which to go on.")
+    check_count(len(graph.nodes))
     return graph
 
 

@@ -3,7 +3,7 @@ from __future__ import annotations
 
 from typing import Any, Optional
 
-from .. import _build as build
+from .. import _build as build, _taking as taking
 from .._array import Array
 from .._dtypes import BOOL, INT64
 from .._missing import kept_missing
@@ -68,8 +68,10 @@ def nonzero(x: Array, /) -> tuple[Array, ...]:
 
 
 def take(x: Array, indices: Array, /, *, axis: Optional[int] = None) -> Array:
-    """Refuse: there is no indexing by arrays of integers."""
-    lacks("take", "there is no indexing by arrays of integers; take slices, and join them with concat")
+    """Return the elements at some places along an axis: places in memory at equal distances alone, which is a slice."""
+    if axis is None and len(node_of(x).shape) != 1:
+        raise ValueError("take of an array of several axes wants axis=")
+    return Array(taking.take(node_of(x), indices, axis))
 
 
 def unique_all(x: Array, /) -> Any:
