@@ -10,7 +10,7 @@ from dataclasses import replace
 from typing import TYPE_CHECKING, Any, Iterator, Mapping, Optional
 
 from ._dtypes import NDArray
-from .errors import BadExpression, NoArray, OtherPlan, OverMemory, Stale, Unfinished, strange
+from .errors import NoArray, OtherPlan, OverMemory, Stale, Unfinished, strange
 from ._files import read_index_of, write_file
 from ._fit import fitting_chunks
 from ._index import read_index
@@ -20,9 +20,10 @@ from ._links import check_unlinked, is_linked, link_inputs, link_names
 from ._locks import locked
 from ._metadata import MOST_TEXT, Metadata
 from ._names import check_free_name, check_name, is_own, metadata_key, record_key
-from ._nodes import MOST_NODES, Graph, Node, expression, in_order
+from ._nodes import Graph, Node, check_count, expression, in_order
 from ._offers import offers_words
 from ._opening import at_most, read_regular
+from ._packing import missing_of
 from ._parts import Engine, read_steps
 from ._plans import Plan, Report, read_plan, read_report
 from ._program import call_program
@@ -82,9 +83,7 @@ def _graph(node: Node, name: str, store: Optional[Store]) -> Graph:
     """
     found = node.store if store is None else store
     graph = Graph(node, {**memory_names(node, name), **({} if found is None else link_names(node, found.working()))})
-    if len(graph.nodes) > MOST_NODES:
-        raise BadExpression(code=7, node=0, advice=f"This expression has {len(graph.nodes)} different nodes, and {MOST_NODES} are allowed:"
-                            " y = x.store(\"part\") computes a part of it and gives it as a stored array, with which to go on.")
+    check_count(len(graph.nodes))
     return graph
 
 
@@ -187,8 +186,8 @@ def plan_node(node: Node, store: Optional[Store], fusion: Optional[int] = None) 
 
 
 def _run(store: Store, graph: Graph, name: str, lock: int, progress: Optional[bool], command: str = "run",
-         fusion: Optional[int] = None) -> Report:
-    """Run an expression whose arrays in memory are stored, and return the report."""
+         fusion: Optional[int] = None, is_kept: bool = True) -> Report:
+    """Run an expression whose arrays in memory are stored, and return the report. What isn't kept needn't be on the disk."""
     text = graph.text(name)
     bar, is_done = None, False
     most = max(node.chunk_bytes for node in graph.nodes)
@@ -197,7 +196,7 @@ def _run(store: Store, graph: Graph, name: str, lock: int, progress: Optional[bo
             label = expression(graph.nodes[graph.out], LABEL) if is_own(name) else name
             bar = Bar(store.folder, name, _ask_plan(store, store.folder, graph, text, fusion), label)
         try:
-            said = call_program(store.words(command, is_temporary=is_own(name), fusion=fusion), text, expression_of=graph.expression,
+            said = call_program(store.words(command, is_temporary=not is_kept, fusion=fusion), text, expression_of=graph.expression,
                                 locks=[lock], watch=None if bar is None else bar.watch)
             is_done = True
         finally:
@@ -289,13 +288,17 @@ def store_node(node: Node, name: str, store: Optional[Store], progress: Optional
 
 
 def _label(folder: str, name: str, node: Node) -> None:
-    """Write the names of axes and the attributes of a result into its metadata, where it has any."""
+    """Write the names of axes and the attributes of a result into its metadata, where it has any, and the number for what is missing."""
     meta = metadata_of(folder, name)
     names, attributes = labels_of(node)
     dimensions = names if any(names) else None
-    if meta is None or (meta.dimensions, dict(meta.attributes)) == (dimensions, attributes):
+    if meta is None:
         return
-    text = replace(meta, dimensions=dimensions, attributes=attributes).text().encode()
+    # (a chunk that is lost later on is missing, and no number)
+    fill = next(iter(missing_of(attributes, meta.dtype)), meta.fill)
+    if (meta.dimensions, dict(meta.attributes), meta.fill) == (dimensions, attributes, fill):
+        return
+    text = replace(meta, dimensions=dimensions, attributes=attributes, fill=fill).text().encode()
     if len(text) <= MOST_TEXT:
         write_file(folder, metadata_key(name), text)
 
@@ -340,13 +343,44 @@ def compute_node(node: Node, store: Optional[Store], progress: Optional[bool], e
 
 def _computed(store: Store, graph: Graph, name: str, progress: Optional[bool]) -> NDArray:
     """Run an expression under a temporary name, and read its result."""
+    with _ran(store, graph, name, progress, False) as found:
+        return read_index_of(store.folder, name, found, read_index(..., found.shape), is_whole=True)
+
+
+@contextlib.contextmanager
+def _ran(store: Store, graph: Graph, name: str, progress: Optional[bool], is_kept: bool) -> Iterator[Metadata]:
+    """Run an expression under a temporary name, and give the layout of its result, which is removed afterwards."""
     _check_inputs(store, graph)
     sweep(store.folder)
     node = graph.nodes[graph.out]
     with locked(store.folder, name, remove=True) as lock, memory_stored(store.folder, graph, lock, [name]):
-        _run(store, graph, name, lock.descriptor, progress)
+        _run(store, graph, name, lock.descriptor, progress, is_kept=is_kept)
         found = metadata_of(store.folder, name)
         if found != _layout(node):
             raise Unfinished(f"the run has ended, and its result is {said_of(found)}, and not {said_of(_layout(node))}:"
                              " another program removed or replaced its files")
-        return read_index_of(store.folder, name, found, read_index(..., node.shape), is_whole=True)
+        assert found is not None
+        yield found
+
+
+@contextlib.contextmanager
+def result_of(node: Node, progress: Optional[bool], call: str) -> Iterator[tuple[str, str, Metadata, bool]]:
+    """Give the folder, name and layout of the stored array of an expression, and whether its files are the package's own and may be moved.
+
+    A stored array is given as it is. Any other is computed by one run, and what of it wasn't moved is removed afterwards.
+    """
+    with _some_store(node, None) as found:
+        its = node.stored_as
+        if its is not None:
+            folder = its.folder or found.folder
+            with telling(call, folder, its.members["name"], True):
+                check_fresh(found, its)
+                if not its.takes_unfinished:
+                    check_finished(folder, its.members["name"])
+                assert its.meta is not None
+                yield folder, its.members["name"], its.meta, False
+            return
+        name = new_name(found.folder)
+        graph = _graph(node, name, found.owner)
+        with telling(call, found.folder, name, True), _ran(found, graph, name, progress, True) as meta:
+            yield found.folder, name, meta, True

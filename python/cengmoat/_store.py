@@ -6,7 +6,7 @@ import copy
 import difflib
 import json
 import os
-from typing import Any, Callable, Iterator, Mapping, NoReturn, Optional, Sequence, Union
+from typing import Any, Callable, ItemsView, Iterator, Mapping, NoReturn, Optional, Sequence, Union, ValuesView
 
 import numpy as np
 
@@ -25,9 +25,10 @@ from ._mounts import reports_late
 from ._nodes import Node
 from ._offers import offers_words
 from ._plans import Report
+from ._readable import ReadableItems, ReadableValues, readable
 from ._program import find_program
 from ._removing import Removal
-from ._saving import check_absent, write_array
+from ._saving import check_absent, write_array, write_group
 from ._shapes import ChunksLike, as_chunks, check_limits
 from ._sizes import as_bytes
 from ._sources import own_chunks
@@ -205,6 +206,18 @@ class Store(Mapping[str, Array]):
     def __contains__(self, name: object) -> bool:
         return name in self.names()
 
+    def items(self) -> ItemsView[str, Array]:
+        """Return the names with their lazy arrays, without those that can't be read; `unread` says why they can't."""
+        return ReadableItems(self)
+
+    def values(self) -> ValuesView[Array]:
+        """Return the lazy arrays of `items`."""
+        return ReadableValues(self)
+
+    def unread(self) -> dict[str, str]:
+        """Return why each array that `items` passes over can't be read, by name: as compressed, of floats, or unfinished."""
+        return {name: why for name, _, why in readable(self) if why}
+
     # (two stores are the same if they are one object: their arrays aren't compared)
     __eq__ = object.__eq__
     __hash__ = object.__hash__
@@ -315,6 +328,7 @@ class Store(Mapping[str, Array]):
         with telling(f"store.save({name!r}, ..)", folder, name, True), locked(folder, name):
             check_absent(folder, name)
             write_array(folder, name, meta, data)
+            write_group(folder)
         return self.array(name)
 
     def read(self, name: str, index: Any = ..., *, unfinished: bool = False) -> NDArray:
