@@ -11,6 +11,7 @@ import numpy as np
 
 from ._array import Array
 from ._build import astype
+from ._calls import reading
 from ._dtypes import NDArray, as_dtype, as_int, check_unmasked
 from .errors import NoArray
 from ._files import read_index_of
@@ -235,9 +236,10 @@ class Store(Mapping[str, Array]):
         TypeError, ValueError
             Where the name isn't one.
         """
-        meta = self._layout(name)
-        if not unfinished:
-            check_finished(self.folder, name)
+        with reading(f"store[{name!r}]", self.folder):
+            meta = self._layout(name)
+            if not unfinished:
+                check_finished(self.folder, name)
         node = Node.stored(self, name, meta, unfinished)
         return Array(astype(node, meta.seen_dtype))
 
@@ -314,15 +316,17 @@ class Store(Mapping[str, Array]):
         IndexError, ValueError, NotImplementedError
             Where the index isn't one of the array.
         """
-        meta = self._layout(name)
-        if not unfinished:
-            check_finished(self.folder, name)
-        found = read_index_of(self.folder, name, meta, read_index(index, meta.shape))
+        with reading(f"store.read({name!r})", self.folder):
+            meta = self._layout(name)
+            if not unfinished:
+                check_finished(self.folder, name)
+            found = read_index_of(self.folder, name, meta, read_index(index, meta.shape))
         return found != 0 if meta.is_truth else found
 
     def status(self) -> Status:
-        """Return the name, type, shape, stored chunks, state and bytes of each array, of unfinished ones too."""
-        return Status([status_of(self.folder, name) for name in all_names(self.folder)])
+        """Return the name, type, shape, whole chunks, state and bytes of each array, also of those that are unfinished or can't be read."""
+        with reading("store.status()", self.folder):
+            return Status([status_of(self.folder, name) for name in all_names(self.folder, True)])
 
     def remove(self, name: str, *, inputs: bool = False) -> list[str]:
         """Remove an array, the record of the run that made it, and all on the way to it.
@@ -353,8 +357,9 @@ class Store(Mapping[str, Array]):
         StoreFailed
             Where a file can't be removed.
         """
-        if Removal(self.folder, check_name(name)).is_nothing:
-            raise self._missing(name)
+        with reading(f"store.remove({name!r})", self.folder):
+            if Removal(self.folder, check_name(name)).is_nothing:
+                raise self._missing(name)
         with telling(f"store.remove({name!r})", self.folder, name), locked(self.folder, name, remove=True) as lock, uninterrupted():
             found = Removal(self.folder, name)
             found.check(inputs)
