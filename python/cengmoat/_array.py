@@ -299,11 +299,12 @@ class Array(Refused, Collection, Operators):
         return compute_node(self.node, store, progress, explain)
 
     def store(self, name: str, into: Optional[Store] = None, *, progress: Optional[bool] = None, resume: bool = False,
-              keep: bool = False, explain: bool = False, executor: Any = None, paths: Optional[Mapping[str, str]] = None) -> Array:
+              keep: bool = False, explain: bool = False, executor: Any = None, paths: Optional[Mapping[str, str]] = None,
+              overwrite: bool = False) -> Array:
         """Compute the array, store it under a name, and return it as a stored array; see `cengmoat.to_zarr`."""
         from ._running import store_node
         return Array(store_node(self.node, name, into, progress, resume, keep, explain,
-                                executor, paths))
+                                executor, paths, overwrite))
 
     def check(self, name: str, *, store: Optional[Store] = None) -> int:
         """Compare the stored array of a name with what this expression means, and return the count of its elements.

@@ -9,8 +9,9 @@ import tempfile
 from dataclasses import replace
 from typing import TYPE_CHECKING, Any, Iterator, Mapping, Optional
 
+from ._calls import reading
 from ._dtypes import NDArray
-from .errors import NoArray, OtherPlan, OverMemory, Stale, Unfinished, strange
+from .errors import NoArray, NotRemoved, OtherPlan, OverMemory, Stale, Unfinished, strange
 from ._files import read_index_of, write_file
 from ._fit import fitting_chunks
 from ._index import read_index
@@ -24,13 +25,13 @@ from ._nodes import Graph, Node, check_count, expression, in_order
 from ._offers import offers_words
 from ._opening import at_most, read_regular
 from ._packing import missing_of
-from ._parts import Engine, read_steps
+from ._parts import Engine, check_executor, read_steps
 from ._plans import Plan, Report, read_plan, read_report
 from ._program import call_program
 from ._progress import Bar, is_wanted
-from ._removing import remove_between
+from ._removing import Removal, remove_between
 from ._status import check_finished, has_record, is_finished, metadata_of
-from ._temporary import memory_names, memory_nodes, memory_stored, new_name, sweep
+from ._temporary import memory_names, memory_nodes, memory_stored, new_name, sweep, uninterrupted
 
 if TYPE_CHECKING:
     from ._store import Store
@@ -260,18 +261,53 @@ def _check_record(store: Store, graph: Graph, name: str, fusion: int) -> None:
                         f" store.remove({name!r}) removes it.")
 
 
+def _make_room(store: Store, node: Node, name: str, fusion: int) -> None:
+    """Remove the result that stands under a name, finished or not, once the plan of what takes its place is accepted.
+
+    Raises
+    ------
+    NotRemoved
+        Where something else lies there.
+    CengmoatError
+        Where the new plan isn't accepted: then nothing is removed.
+    """
+    old = Removal(store.folder, name)
+    if old.is_nothing:
+        return
+    if old.is_link or old.has_array and not old.has_record:
+        raise NotRemoved(f"{name} is {'a link' if old.is_link else 'an array that no run made'}, and overwrite=True removes results alone:"
+                         f" store.remove({name!r}, inputs=True) removes it", name=name)
+    old.check(inputs=False)
+    plan_node(node, store.owner, fusion)
+    with uninterrupted():
+        old.remove()
+
+
+def _check_overwrite(graph: Graph, name: str, overwrite: bool, resume: bool) -> None:
+    """Refuse to overwrite what is read, or what is to be gone on with, by a ValueError."""
+    if overwrite and resume:
+        raise ValueError("resume=True goes on with a result and overwrite=True removes it: say one of both")
+    if overwrite and name in graph.inputs:
+        raise ValueError(f"x.store({name!r}, overwrite=True): the expression reads {name}, so it isn't removed: store it under another name")
+
+
 def store_node(node: Node, name: str, store: Optional[Store], progress: Optional[bool], resume: bool, keep: bool,
-               explain: bool = False, executor: Any = None, paths: Optional[Mapping[str, str]] = None) -> Node:
+               explain: bool = False, executor: Any = None, paths: Optional[Mapping[str, str]] = None, overwrite: bool = False) -> Node:
     """Store an expression under a name, and return the stored array's node."""
     check_free_name(name)
     found = store_of(node, store)
     check_unlinked(found, name)
     graph = _graph(node, name, store)
+    if executor is not None:
+        check_executor(executor)
+    _check_overwrite(graph, name, overwrite, resume)
     fusion = _fusion_of(found, name) if resume else found.fusion
     if explain:
         print(plan_node(node, found.owner, fusion))
     with telling(f"x.store({name!r})", found.folder, name), locked(found.folder, name) as lock:
         _check_inputs(found, graph)
+        if overwrite:
+            _make_room(found, node, name, fusion)
         goes_on = resume and has_record(found.folder, name)
         if goes_on:
             _check_record(found, graph, name, fusion)
@@ -332,7 +368,8 @@ def compute_node(node: Node, store: Optional[Store], progress: Optional[bool], e
     with _some_store(node, store) as found:
         its = node.stored_as
         if its is not None:
-            return read_node(its)
+            with reading("x.compute()", its.folder or found.folder):
+                return read_node(its)
         if explain:
             print(plan_node(node, found.owner))
         name = new_name(found.folder)

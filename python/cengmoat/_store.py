@@ -12,6 +12,7 @@ import numpy as np
 
 from ._array import Array
 from ._build import astype
+from ._calls import reading
 from ._dtypes import NDArray, as_dtype, as_int, check_unmasked
 from .errors import NoArray, NotRemoved
 from ._files import read_index_of
@@ -271,10 +272,12 @@ class Store(Mapping[str, Array]):
         TypeError, ValueError
             Where the name isn't one.
         """
-        meta = self._layout(name)
-        if not unfinished:
-            check_finished(self.home(name), name)
-        node = Node.stored(self, name, meta, unfinished, self.home(name))
+        with reading(f"store[{name!r}]", self.folder):
+            meta = self._layout(name)
+            home = self.home(name)
+            if not unfinished:
+                check_finished(home, name)
+        node = Node.stored(self, name, meta, unfinished, home)
         return Array(astype(node, meta.seen_dtype))
 
     def __getitem__(self, name: str) -> Array:
@@ -352,15 +355,18 @@ class Store(Mapping[str, Array]):
         IndexError, ValueError, NotImplementedError
             Where the index isn't one of the array.
         """
-        meta = self._layout(name)
-        if not unfinished:
-            check_finished(self.home(name), name)
-        found = read_index_of(self.home(name), name, meta, read_index(index, meta.shape))
+        with reading(f"store.read({name!r})", self.folder):
+            meta = self._layout(name)
+            home = self.home(name)
+            if not unfinished:
+                check_finished(home, name)
+            found = read_index_of(home, name, meta, read_index(index, meta.shape))
         return found != 0 if meta.is_truth else found
 
     def status(self) -> Status:
-        """Return the name, type, shape, stored chunks, state and bytes of each array, of unfinished ones too."""
-        return Status([status_of(self.home(name), name) for name in self._all(all_names)])
+        """Return the name, type, shape, whole chunks, state and bytes of each array, also of those that are unfinished or can't be read."""
+        with reading("store.status()", self.folder):
+            return Status([status_of(self.home(name), name) for name in self._all(lambda folder: all_names(folder, True))])
 
     def remove(self, name: str, *, inputs: bool = False) -> list[str]:
         """Remove an array, the record of the run that made it, and all on the way to it.
@@ -391,11 +397,12 @@ class Store(Mapping[str, Array]):
         StoreFailed
             Where a file can't be removed.
         """
-        if self.work is not None and self.home(check_name(name)) == self.folder and has_array(self.folder, name):
-            raise NotRemoved(f"{name} isn't removed: it lies in {self.folder}, which is only read", name=name)
-        folder = self.working().folder
-        if Removal(folder, check_name(name)).is_nothing:
-            raise self._missing(name)
+        with reading(f"store.remove({name!r})", self.folder):
+            if self.work is not None and self.home(check_name(name)) == self.folder and has_array(self.folder, name):
+                raise NotRemoved(f"{name} isn't removed: it lies in {self.folder}, which is only read", name=name)
+            folder = self.working().folder
+            if Removal(folder, check_name(name)).is_nothing:
+                raise self._missing(name)
         with telling(f"store.remove({name!r})", folder, name), locked(folder, name, remove=True) as lock, uninterrupted():
             found = Removal(folder, name)
             found.check(inputs)
