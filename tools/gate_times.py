@@ -14,6 +14,7 @@ import re
 import subprocess
 import sys
 import time
+from said import usage_if_asked
 
 TOP = os.path.dirname(os.path.dirname(os.path.realpath(__file__)))
 TICKS = os.sysconf("SC_CLK_TCK")
@@ -77,4 +78,5 @@ def main():
 
 
 if __name__ == "__main__":
+    usage_if_asked(__doc__)
     sys.exit(main())
