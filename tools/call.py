@@ -6,8 +6,7 @@ usage: tools/call.py PROGRAM DIR COMMAND WORDS..
 
 - `run --progress 1` and `resume --progress 1` show on a terminal how many tasks are done, by the
   chunks that are there.
-- `load` holds the lock of the array's name, which python/ uses too, so that two that store one
-  array keep each other out.
+- A call that stores an array holds the lock of its name, which python/ uses too.
 - After Ctrl-C it says what is stored and how one goes on; after 10 and 16 the space, files and
   rights that it finds; after 2, 3 and 4 what is wrong with the words or with the text.
 
@@ -24,12 +23,15 @@ import sys
 import threading
 import time
 
+import fresh
 import locks
-from words import OPTIONS, Wrong, read, told_of, without_progress
+import texts
+from options import OPTIONS
+from said import usage_if_asked
+from words import Wrong, read, told_of, without_progress
 from zarr_store import NAME, Failed, Stored, shown
 
-MOST_TEXT, MOST_LINE = 1 << 20, 1 << 16
-TAKES_TEXT = ("run", "resume", "drop", "plan", "check", "load", "begin", "part")
+MOST_LINE = 1 << 16
 ENDING = (signal.SIGINT, signal.SIGTERM, signal.SIGHUP)
 # The seconds between two looks at the folder, and the part of the time that these may take.
 LEAST_WAIT, MOST_PART = 0.25, 0.02
@@ -55,62 +57,30 @@ class Call:
             self.options, self.wrong = {}, wrong
         else:
             self.wrong = None
-        self.text = self.stdin = None
-        if self.command in TAKES_TEXT and not self.wrong:
-            self.take_text()
+        takes_text = self.command in texts.TAKES_TEXT and not self.wrong
+        self.text = texts.taken() if takes_text else None
 
-    def take_text(self):
-        """Reads the text. A file is then read by the program once more, and what came otherwise is handed on. What can't be read is left
-        for the program to say so."""
-        start = place_in_file()
-        with contextlib.suppress(OSError, ValueError, AttributeError):
-            self.text = sys.stdin.buffer.read(MOST_TEXT + 2)
-        if start is not None:
-            os.lseek(0, start, os.SEEK_SET)
-        elif self.text is not None:
-            self.stdin = handed_on(self.text)
+    def locks(self):
+        """The names whose locks it holds, and whether it holds each alone."""
+        if self.wrong:
+            return []
+        if os.path.isdir(self.folder):
+            return texts.locks_of(self.command, self.text)
+        return fresh.locks_of(self.words[1:], self.text)
 
     @property
     def name(self):
         """The name of the array that the call makes, or nothing where it makes none."""
-        from tasks import name_of_text
-        found = name_of_text(self.text) if self.text else None
+        found = texts.name_of_text(self.text) if self.text else None
         name = "demo_y" if self.command == "demo" else found
         return name if isinstance(name, str) and NAME.match(name) else None
 
     def tasks(self):
         """The tasks of the plan of the text, or nothing."""
         import tasks
-        found = [self.options.get(name, OPTIONS[name][2])
+        found = [self.options.get(name, OPTIONS[name].default)
                  for name in ("allowed-mem", "reserved-mem", "split-every", "fusion")]
         return tasks.of_text(self.folder, self.text, *found) if self.text else None
-
-
-def place_in_file():
-    """The place in the file that standard input is, or nothing where it is none."""
-    with contextlib.suppress(OSError):
-        if stat.S_ISREG(os.fstat(0).st_mode):
-            return os.lseek(0, 0, os.SEEK_CUR)
-    return None
-
-
-def handed_on(text):
-    """A descriptor from which a text is read: of a file without a name or, where there may be none
-    of that size, of a pipe.
-    """
-    with contextlib.suppress(OSError, AttributeError):
-        made = os.memfd_create("text")
-        if os.write(made, text) == len(text):
-            os.lseek(made, 0, os.SEEK_SET)
-            return made
-    read_end, write_end = os.pipe()
-
-    def feed():
-        with contextlib.suppress(OSError), open(write_end, "wb") as file:
-            file.write(text)
-
-    threading.Thread(target=feed, daemon=True).start()
-    return read_end
 
 
 class Line:
@@ -161,7 +131,7 @@ class Progress:
         sys.stderr.flush()
 
 
-def run(call, lock=None):
+def run(call, held=()):
     """Runs the program to its end, passes its signals on, and returns its status and its line on
     standard error.
     """
@@ -170,7 +140,7 @@ def run(call, lock=None):
         tasks = call.tasks()
         progress = Progress(tasks) if tasks and tasks.count else None
         said.before = NO_LINE if progress else b""
-    if lock is not None:
+    for lock in held:
         os.set_inheritable(lock, True)
 
     def pass_on(number, _):
@@ -181,7 +151,7 @@ def run(call, lock=None):
         # What is ignored stays so for the program too, as under nohup.
         if signal.getsignal(number) is not signal.SIG_IGN:
             signal.signal(number, pass_on)
-    child = subprocess.Popen(call.words, stdin=call.stdin, stderr=said.write_end, close_fds=False,
+    child = subprocess.Popen(call.words, stderr=said.write_end, close_fds=False,
                              preexec_fn=as_without_python)
     said.begin()
     wait_for(child, progress, said)
@@ -318,33 +288,15 @@ def tell_more(call, status, line):
         tell_found(path_of_fault(call, dict(word.partition("=")[::2] for word in line.split())))
 
 
-def loading_name(call):
-    """The name of the array of a text for `load` that is one, so that nothing is locked for one
-    that is refused anyway.
-    """
-    import array
-    import json
-    from zarr_store import TYPES, Layout
-    if call.command != "load" or call.wrong or not call.text or len(call.text) > MOST_TEXT:
-        return None
-    with contextlib.suppress(ValueError, KeyError, TypeError, OverflowError, RecursionError,
-                             AttributeError, Failed):
-        told = json.loads(call.text.decode("utf-8"))
-        layout = Layout(told["data_type"], told["shape"], told["chunk_shape"])
-        array.array(TYPES[layout.dtype], told["elements"])
-        return call.name
-    return None
-
-
 def main(program, *words):
     call = Call(program, list(words))
     if call.wrong and "progress" in call.wrong.told:
         print(f"error 2 code={call.wrong.code}\ncubed: {call.wrong.told}", file=sys.stderr)
         return 2
-    name = loading_name(call)
     try:
-        with locks.held(call.folder, name) if name else contextlib.nullcontext() as lock:
-            status, line = run(call, lock)
+        with contextlib.ExitStack() as stack:
+            held = [stack.enter_context(locks.held(call.folder, name, alone)) for name, alone in call.locks()]
+            status, line = run(call, [it for it in held if it is not None])
     except Failed as failed:
         tell(failed)
         return 1
@@ -358,6 +310,7 @@ def main(program, *words):
 
 
 if __name__ == "__main__":
+    usage_if_asked(__doc__, 1)
     try:
         ended = main(*sys.argv[1:])
     except KeyboardInterrupt:

@@ -10,6 +10,7 @@ crate stands before one that it names.
 import os
 import re
 import sys
+from said import usage_if_asked
 
 TOP = os.path.dirname(os.path.dirname(os.path.realpath(__file__)))
 MOST = 40
@@ -99,4 +100,5 @@ def main(words):
 
 
 if __name__ == "__main__":
+    usage_if_asked(__doc__)
     sys.exit(main(sys.argv[1:]))

@@ -22,6 +22,7 @@ import limits  # limits.py and rules.py, in compare
 import rules
 from words import near, told_of
 from zarr_store import METADATA_BYTES, Failed, bytes_in, shown, sizes_text
+from said import usage_if_asked
 
 MOST_TEXT = rules.MOST_TEXT
 # The seconds for which a text is waited for that comes through a pipe.
@@ -405,4 +406,5 @@ def main(words):
 
 
 if __name__ == "__main__":
+    usage_if_asked(__doc__)
     sys.exit(main(sys.argv[1:]))

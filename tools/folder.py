@@ -2,6 +2,7 @@
 """The commands `status` and `remove` of the script cubed: what lies in a folder of arrays, and
 removing an array with its plan.
 
+usage:
   cubed DIR status [NAME]
   cubed DIR remove NAME [--input] [--dry-run]
 
@@ -18,6 +19,7 @@ from tasks import at_work_in, is_at_work, is_chunk_of_plan, of_record
 from zarr_store import (CHUNK, GROUP, METADATA, NO_METADATA, STOPPED, Failed, Stored, Unread,
                         files_under, is_name, names_in, shown,
                         sizes_text)
+from said import usage_if_asked
 
 NO_ARRAY = "no array"
 # How many files of each kind are named.
@@ -428,5 +430,6 @@ def main(words):
 
 
 if __name__ == "__main__":
+    usage_if_asked(__doc__)
     signal.signal(signal.SIGTERM, lambda *_: (_ for _ in ()).throw(KeyboardInterrupt()))
     sys.exit(main(sys.argv[1:]))

@@ -17,6 +17,7 @@ import re
 import subprocess
 import sys
 import time
+from said import usage_if_asked
 
 TOP = os.path.dirname(os.path.dirname(os.path.realpath(__file__)))
 PAGE = f"{TOP}/bench/GATE.md"
@@ -101,4 +102,5 @@ def main():
 
 
 if __name__ == "__main__":
+    usage_if_asked(__doc__)
     sys.exit(main())

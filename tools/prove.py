@@ -6,6 +6,8 @@ toolchains keep on a machine what `rt ci` proved: there a run that was broken of
 over. It gives a crate one processor, so the last crate, which waits for all others, is proved by itself, with all processors, and
 isn't kept. Where all others are kept, `rt ci` proves this one too. Then the program itself is proved and compiled, for a processor of this machine's kind. What is
 said is in crates/cu_bin/out/build.log.
+While it works, a terminal and the file crates/cu_bin/out/progress show how many crates are proved, how long that took, and a guess of
+the minutes that are left.
 usage: tools/prove.py [--jobs N] [--times] [--cpu NAME] [--to FILE]
   --jobs N     on N processors; where it isn't given, on all that there are and that the memory suffices for
   --times      prints after how many seconds each crate was proved
@@ -13,6 +15,7 @@ usage: tools/prove.py [--jobs N] [--times] [--cpu NAME] [--to FILE]
   --to FILE    where the program goes; where it isn't given, crates/cu_bin/out/cu_bin
 """
 import argparse
+import contextlib
 import os
 import re
 import shutil
@@ -29,6 +32,8 @@ import processor  # processor.py, in this folder
 TOP = os.path.dirname(os.path.dirname(os.path.realpath(__file__)))
 PROGRAM = "cu_bin"
 OUT = f"{TOP}/crates/{PROGRAM}/out"
+# How far it is, in one line, and the seconds after which that is written anew.
+PROGRESS, EVERY = f"{OUT}/progress", 5
 # What a copy of a crate leaves out.
 LEFT_OUT = shutil.ignore_patterns("out", "must-fail", "more-edits")
 PROVED = re.compile(r"rt: (\w+) (?:proved|is kept: .*)")
@@ -101,6 +106,19 @@ class Room:
         return words
 
 
+def bytes_of(name):
+    """The bytes of a crate's sources and proofs."""
+    found = 0
+    for at, folders, names in os.walk(f"{TOP}/crates/{name}"):
+        folders[:] = [it for it in folders if it not in ("out", "must-fail", "more-edits")]
+        found += sum(os.stat(f"{at}/{it}").st_size for it in names if it.endswith((".rt", ".antt")))
+    return found
+
+
+def minutes(seconds):
+    return f"{max(1, round(seconds))} s" if seconds < 90 else f"{round(seconds / 60)} min"
+
+
 class Tail:
     """The proofs of the last crates, one after another, with several processors each."""
 
@@ -153,6 +171,8 @@ class Work:
         self.room = room
         self.jobs = jobs
         self.seconds = {}
+        self.kept = set()
+        self.size = {name: bytes_of(name) for name in room.lines}
         self.is_new = False
         self.tail = None
         self.process = None
@@ -185,7 +205,9 @@ class Work:
                 log.write(line)
             proved = PROVED.match(line)
             if proved and proved[1] in self.room.lines:
-                self.is_new = self.is_new or " is kept" not in line
+                if " is kept" in line:
+                    self.kept.add(proved[1])
+                self.is_new = self.is_new or proved[1] not in self.kept
                 self.note(proved[1])
                 self.look_ahead()
         status = self.process.wait()
@@ -204,10 +226,47 @@ class Work:
         self.seconds.setdefault(name, time.monotonic() - self.began)
         self.show()
 
+    def left(self):
+        """A guess of the seconds that are left, or nothing. What was proved anew tells the seconds for a byte of a crate."""
+        done = sum(size for name, size in self.size.items() if name in self.seconds and name not in self.kept)
+        left = sum(size for name, size in self.size.items() if name not in self.seconds)
+        return (time.monotonic() - self.began) * left / done if done else None
+
+    def told(self):
+        """How far it is, in one line."""
+        parts = [f"{len(self.seconds)} of {len(self.room.lines)} crates are proved", f"{minutes(time.monotonic() - self.began)} gone"]
+        left = self.left()
+        if left is not None:
+            parts.append(f"about {minutes(left)} left" if left else "the program itself is proved and compiled")
+        return ", ".join(parts)
+
     def show(self):
+        """Shows how far it is on a terminal, and in a file."""
+        told = self.told()
+        with contextlib.suppress(OSError):
+            with open(f"{PROGRESS}.new", "w", encoding="utf-8") as file:
+                file.write(f"{told}\n")
+            os.replace(f"{PROGRESS}.new", PROGRESS)
         if sys.stderr.isatty():
-            sys.stderr.write(f"\r\x1b[Kcubed: {len(self.seconds)} of {len(self.room.lines)} crates are proved")
+            sys.stderr.write(f"\r\x1b[Kcubed: {told}")
             sys.stderr.flush()
+
+    def keep_showing(self):
+        """Shows it again and again, until it is told to end."""
+        while not self.is_ended.wait(EVERY):
+            self.show()
+
+    def __enter__(self):
+        self.is_ended = threading.Event()
+        self.shower = threading.Thread(target=self.keep_showing, daemon=True)
+        self.shower.start()
+        return self
+
+    def __exit__(self, *_):
+        self.is_ended.set()
+        self.shower.join()
+        if sys.stderr.isatty():
+            sys.stderr.write("\r\x1b[K")
 
     def stop(self):
         """Ends what was begun."""
@@ -232,44 +291,54 @@ def compiled(line, room, jobs, cpu):
     return 0, made
 
 
-def prove(folder, given):
-    """Proves and builds all in a folder, and returns the exit status and the work."""
+def prove(folder, jobs, wanted):
+    """Proves all in a folder, builds the program for each kind of processor that is wanted, to its file, and returns the exit status and
+    the work."""
     lines = lines_of_crates()
     line = lines.pop(PROGRAM)
     room = Room(folder, lines)
-    work = Work(room, given.jobs)
-    try:
-        status, program = work.prove(), None
-        if status == 0:
-            status, program = compiled(line, room, given.jobs, given.cpu)
-    except KeyboardInterrupt:
-        work.stop()
-        sys.stderr.write(f"\ncubed: broken off; {len(work.seconds)} of {len(lines)} crates were proved\n")
-        return 130, work
-    finally:
-        if sys.stderr.isatty():
-            sys.stderr.write("\r\x1b[K")
-    if status == 0:
-        shutil.copy(program, f"{given.to}.new")
-        os.replace(f"{given.to}.new", given.to)
+    with Work(room, jobs) as work:
+        try:
+            status = work.prove()
+            for cpu, to in wanted.items() if status == 0 else ():
+                status, program = compiled(line, room, jobs, cpu)
+                if status:
+                    break
+                shutil.copy(program, f"{to}.new")
+                os.replace(f"{to}.new", to)
+        except KeyboardInterrupt:
+            work.stop()
+            sys.stderr.write(f"\ncubed: broken off; {len(work.seconds)} of {len(lines)} crates were proved\n")
+            return 130, work
     return status, work
 
 
-def main():
-    parser = argparse.ArgumentParser(usage="tools/prove.py [--jobs N] [--times] [--cpu NAME] [--to FILE]")
-    parser.add_argument("--jobs", type=int, default=max(1, min(len(os.sched_getaffinity(0)), free_memory() // EACH)))
-    parser.add_argument("--times", action="store_true")
-    parser.add_argument("--cpu", default=processor.best(), choices=["x86-64-v2", "x86-64-v3"])
-    parser.add_argument("--to", default=f"{OUT}/{PROGRAM}")
-    words = parser.parse_args()
+def proved(jobs, wanted):
+    """Proves all, builds the program for each kind of processor, says what went wrong, and returns the exit status and the work."""
     os.makedirs(OUT, exist_ok=True)
     # A repository's copy may not lie in a repository.
     with tempfile.TemporaryDirectory(prefix="cubed-build-") as folder:
-        status, work = prove(folder, words)
+        status, work = prove(folder, jobs, wanted)
     if status not in (0, 130):
         with open(f"{OUT}/build.log", encoding="utf-8") as log:
             sys.stderr.write(log.read())
         sys.stderr.write("cubed: not all of the crates were proved and built\n")
+    return status, work
+
+
+def usual_jobs():
+    """How many crates are proved at once where nothing is said."""
+    return max(1, min(len(os.sched_getaffinity(0)), free_memory() // EACH))
+
+
+def main():
+    parser = argparse.ArgumentParser(usage="tools/prove.py [--jobs N] [--times] [--cpu NAME] [--to FILE]")
+    parser.add_argument("--jobs", type=int, default=usual_jobs())
+    parser.add_argument("--times", action="store_true")
+    parser.add_argument("--cpu", default=processor.best(), choices=processor.KINDS)
+    parser.add_argument("--to", default=f"{OUT}/{PROGRAM}")
+    words = parser.parse_args()
+    status, work = proved(words.jobs, {words.cpu: words.to})
     if words.times:
         for name, seconds in work.seconds.items():
             print(f"{name:16} {seconds:7.1f}")

@@ -12,6 +12,7 @@ import stat
 import sys
 
 import locks
+from texts import name_of_text
 from zarr_store import METADATA_BYTES, RECORD_BYTES, Failed, bytes_in
 
 sys.path.append(os.path.join(os.path.dirname(os.path.realpath(__file__)), "..", "compare"))
@@ -138,15 +139,6 @@ def words_of(process):
             return file.read(MOST_WORDS).split(b"\0")[:-1]
     except OSError:
         return []
-
-
-def name_of_text(data):
-    """The name under which a text stores its array, or nothing."""
-    try:
-        value = json.loads(data.decode("utf-8"))
-        return value.get("store_as", value.get("name"))
-    except (ValueError, AttributeError, RecursionError):
-        return None
 
 
 def name_at(process, words):

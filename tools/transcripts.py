@@ -24,10 +24,9 @@ import subprocess
 import sys
 import tempfile
 
+import shipped  # shipped.py, in this folder
+
 TOP = os.path.dirname(os.path.dirname(os.path.realpath(__file__)))
-# As tools/archive has them.
-TOOLS = ("zarr", "zarr_store.py", "folder.py", "tasks.py", "locks.py", "words.py", "call.py", "explain.py")
-RULES = ("rules.py", "copies.py", "inlined.py", "limits.py", "operators.py", "reductions.py")
 # The nodes before the example of an operator, and the arrays that they want.
 LOADED = ("elementwise/t", "elementwise/o", "rechunk/m")
 BEFORE = [{"id": "t", "op": "input", "name": "t"}, {"id": "o", "op": "input", "name": "o"}, {"id": "m", "op": "input", "name": "m"},
@@ -160,12 +159,9 @@ def lay_out(folder, program, python):
     for name in ("examples", "docs", "python"):
         if os.path.isdir(f"{TOP}/{name}"):
             shutil.copytree(f"{TOP}/{name}", f"{folder}/{name}")
-    for name in ("tools", "compare", "program", "bin"):
+    for name in ("program", "bin"):
         os.mkdir(f"{folder}/{name}")
-    for place, names in (("tools", TOOLS), ("compare", RULES)):
-        for name in names:
-            shutil.copy(f"{TOP}/{place}/{name}", f"{folder}/{place}/{name}")
-    shutil.copy(f"{TOP}/cubed", f"{folder}/cubed")
+    shipped.put_scripts(folder)
     shutil.copy(program, f"{folder}/program/cubed")
     with open(f"{folder}/bin/python3", "w", encoding="ascii") as file:
         file.write(f'#!/bin/sh\nexec "{python}" "$@"\n')

@@ -10,32 +10,14 @@ import difflib
 import re
 import sys
 
-from zarr_store import NAME, shown
+from options import COMMANDS, OPTIONS, OTHERS, options_of
+from said import shown, usage_if_asked
+from texts import NAME
 
-PLANS = ("plan", "run", "begin", "part", "resume", "drop", "demo")
-# Each option: the least and the most number, the number where it isn't given, and the commands that
-# take it.
-OPTIONS = {
-    "allowed-mem": (0, 2**40, 200_000_000, PLANS),
-    "reserved-mem": (0, 2**40, 0, PLANS),
-    "split-every": (2, 64, 4, PLANS),
-    "fusion": (1, 2, 1, PLANS),
-    "workers": (1, 64, 1, ("run", "resume", "demo")),
-    "retries": (0, 8, 2, ("run", "begin", "part", "resume", "drop", "load", "check", "print", "demo")),
-    "backups": (0, 1, 0, ("run", "resume", "demo")),
-    "sync": (0, 1, 1, ("run", "begin", "part", "resume", "load", "demo")),
-    "op": (0, 2**64 - 1, None, ("part",)),
-    "from": (0, 2**64 - 1, None, ("part",)),
-    "to": (0, 2**64 - 1, None, ("part",)),
-    "progress": (0, 1, 0, ("run", "resume")),
-}
-COMMANDS = ("run", "begin", "part", "resume", "drop", "plan", "load", "check", "print", "demo")
-# The script's own commands, which aren't the program's.
-OTHERS = ("status", "remove", "explain")
 # What stands behind an option's name alone.
 POSITIONAL = {"print": "the name of an array", "demo": "a size from 1 to 2048"}
 # Options that a command must have: they have no number where they aren't given.
-REQUIRED = {"part": [name for name, row in OPTIONS.items() if row[2] is None]}
+REQUIRED = {"part": [name for name, row in OPTIONS.items() if row.default is None]}
 NUMBER = re.compile(r"\+?[0-9]+\Z", re.ASCII)
 UNITS = {"": 1, "k": 10**3, "m": 10**6, "g": 10**9, "t": 10**12, "ki": 2**10, "mi": 2**20,
          "gi": 2**30, "ti": 2**40}
@@ -110,7 +92,7 @@ def number(name, value, least, most):
 def options(command, given):
     """The numbers of the options of a command, by their names."""
     found = {}
-    own = [name for name, row in OPTIONS.items() if command in row[3]]
+    own = list(options_of(command))
     for name, value in given:
         if name not in OPTIONS:
             raise Wrong(2, f"there is no option --{shown(name)}{near(name, own)}")
@@ -119,7 +101,7 @@ def options(command, given):
                         f"{command} has no option --{name}; it has {', '.join(f'--{it}' for it in own)}")
         if name in found:
             raise Wrong(2, f"--{name} stands twice")
-        found[name] = number(name, value, *OPTIONS[name][:2])
+        found[name] = number(name, value, OPTIONS[name].least, OPTIONS[name].most)
     for name in REQUIRED.get(command, ()):
         if name not in found:
             raise Wrong(2, f"{command} wants --{name}")
@@ -135,7 +117,7 @@ def read(folder, command=None, *words):
             raise Wrong(1, f"the folder comes first: cubed DIR {folder}")
         told = "no command is given" if command is None else f"{shown(command) or 'an empty word'} isn't a command"
         raise Wrong(1,
-                    f"{told}{near(command or '', COMMANDS + OTHERS)}; the commands are {', '.join(COMMANDS + OTHERS)}")
+                    f"{told}{near(command or '', [*COMMANDS, *OTHERS])}; the commands are {', '.join([*COMMANDS, *OTHERS])}")
     given, others = parts(list(words))
     found = options(command, given)
     wanted = POSITIONAL.get(command)
@@ -188,4 +170,5 @@ def main(words):
 
 
 if __name__ == "__main__":
+    usage_if_asked(__doc__)
     sys.exit(main(sys.argv[1:]))

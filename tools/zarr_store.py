@@ -14,6 +14,8 @@ import stat
 import sys
 from typing import NamedTuple
 
+from said import Failed, shown
+
 # Each type with its letter in the module array. Truth values are bytes.
 TYPES = {"bool": "B", "int8": "b", "int16": "h", "int32": "i", "int64": "q",
          "uint8": "B", "uint16": "H", "uint32": "I", "uint64": "Q"}
@@ -34,19 +36,8 @@ RANK, ELEMENTS, CHUNKS, CHUNK_BYTES, METADATA_BYTES, RECORD_BYTES = 6, 2**40, 65
 MAPPED = 64 << 20
 
 
-class Failed(Exception):
-    """The array can't be written or read, and why."""
-
-
 class Unread(Failed):
     """The metadata isn't one that the program reads."""
-
-
-def shown(value, most=80):
-    """A text of a file as it may be printed: on one line, of characters that a terminal shows."""
-    text = str(value)
-    text = text if len(text) <= most else f"{text[:most]}.."
-    return "".join(letter if letter.isprintable() else ascii(letter)[1:-1] for letter in text)
 
 
 def opened(path):

@@ -7,7 +7,7 @@ import os
 import re
 import tempfile
 from dataclasses import replace
-from typing import TYPE_CHECKING, Any, Iterator, Mapping, Optional
+from typing import TYPE_CHECKING, Any, Callable, Iterator, Mapping, Optional
 
 from ._calls import reading
 from ._dtypes import NDArray
@@ -18,7 +18,7 @@ from ._index import read_index
 from ._labels import labels_of
 from ._left import telling, with_cause
 from ._links import check_unlinked, is_linked, link_inputs, link_names
-from ._locks import locked
+from ._locks import Lock, locked
 from ._metadata import MOST_TEXT, Metadata
 from ._names import check_free_name, check_name, is_own, metadata_key, record_key
 from ._nodes import Graph, Node, check_count, expression, in_order
@@ -40,6 +40,8 @@ if TYPE_CHECKING:
 MOST_RECORD = 2**22
 # The `fusion` of each version of a plan that a record may have.
 FUSIONS = {2: 1, 3: 2}
+# The seconds between two looks at a run that shows no bar.
+EACH_LOOK = 0.5
 # The characters of an expression before a bar, about.
 LABEL = 32
 
@@ -186,7 +188,20 @@ def plan_node(node: Node, store: Optional[Store], fusion: Optional[int] = None) 
             return _ask_plan(found, folder, graph, text, fusion)
 
 
-def _run(store: Store, graph: Graph, name: str, lock: int, progress: Optional[bool], command: str = "run",
+def _watch(lock: Lock, folder: str, name: str, bar: Optional[Bar]) -> Optional[Callable[[], float]]:
+    """Return what is called while a run works: others may share the lock once the run's record is there, and the bar is shown."""
+    if not lock.shares:
+        return None if bar is None else bar.watch
+
+    def look() -> float:
+        if has_record(folder, name):
+            lock.share()
+        return EACH_LOOK if bar is None else bar.watch()
+
+    return look
+
+
+def _run(store: Store, graph: Graph, name: str, lock: Lock, progress: Optional[bool], command: str = "run",
          fusion: Optional[int] = None, is_kept: bool = True) -> Report:
     """Run an expression whose arrays in memory are stored, and return the report. What isn't kept needn't be on the disk."""
     text = graph.text(name)
@@ -198,7 +213,7 @@ def _run(store: Store, graph: Graph, name: str, lock: int, progress: Optional[bo
             bar = Bar(store.folder, name, _ask_plan(store, store.folder, graph, text, fusion), label)
         try:
             said = call_program(store.words(command, is_temporary=not is_kept, fusion=fusion), text, expression_of=graph.expression,
-                                locks=[lock], watch=None if bar is None else bar.watch)
+                                locks=[lock.descriptor], watch=_watch(lock, store.folder, name, bar))
             is_done = True
         finally:
             if bar is not None:
@@ -208,7 +223,7 @@ def _run(store: Store, graph: Graph, name: str, lock: int, progress: Optional[bo
 
 
 def _run_parts(store: Store, graph: Graph, name: str, progress: Optional[bool], goes_on: bool, executor: Any, paths: Mapping[str, str],
-               fusion: Optional[int]) -> None:
+               fusion: Optional[int], lock: Lock) -> None:
     """Begin a run, or go on with one, and hand its parts to an executor; what is missing then is for `resume`.
 
     Raises
@@ -221,6 +236,7 @@ def _run_parts(store: Store, graph: Graph, name: str, progress: Optional[bool], 
     text = graph.text(name)
     with _advised(store, graph, text), with_cause(store.folder, name, max(node.chunk_bytes for node in graph.nodes), graph.inputs):
         said = call_program(store.words("plan" if goes_on else "begin", fusion=fusion), text, expression_of=graph.expression)
+        lock.share()
         bar, is_done = None, False
         if is_wanted(progress):
             bar = Bar(store.folder, name, read_plan(re.sub(r" reads=[\d,]*$", "", said, flags=re.M), graph, store.allowed_mem, store.reserved_mem), name)
@@ -304,7 +320,10 @@ def store_node(node: Node, name: str, store: Optional[Store], progress: Optional
     fusion = _fusion_of(found, name) if resume else found.fusion
     if explain:
         print(plan_node(node, found.owner, fusion))
-    with telling(f"x.store({name!r})", found.folder, name), locked(found.folder, name) as lock:
+    # (arrays in memory are stored beside it and removed at the end, which is for one call alone)
+    shares = not memory_nodes(graph)
+    shared = shares and resume and has_record(found.folder, name)
+    with telling(f"x.store({name!r})", found.folder, name), locked(found.folder, name, shared=shared, shares=shares) as lock:
         _check_inputs(found, graph)
         if overwrite:
             _make_room(found, node, name, fusion)
@@ -314,11 +333,12 @@ def store_node(node: Node, name: str, store: Optional[Store], progress: Optional
         if not goes_on or not is_finished(found.folder, name):
             with memory_stored(found.folder, graph, lock):
                 if executor is not None:
-                    _run_parts(found, graph, name, progress, goes_on, executor, paths or {}, fusion)
+                    _run_parts(found, graph, name, progress, goes_on, executor, paths or {}, fusion, lock)
                     goes_on = True
-                _run(found, graph, name, lock.descriptor, progress, "resume" if goes_on else "run", fusion)
+                _run(found, graph, name, lock, progress, "resume" if goes_on else "run", fusion)
         _label(found.folder, name, node)
-        if not keep:
+        # (another one that still computes it reads what lies in between, and removes it at its own end)
+        if not keep and lock.be_alone():
             remove_between(found.folder, name)
     return found.owner.array(name).node
 
@@ -391,7 +411,7 @@ def _ran(store: Store, graph: Graph, name: str, progress: Optional[bool], is_kep
     sweep(store.folder)
     node = graph.nodes[graph.out]
     with locked(store.folder, name, remove=True) as lock, memory_stored(store.folder, graph, lock, [name]):
-        _run(store, graph, name, lock.descriptor, progress, is_kept=is_kept)
+        _run(store, graph, name, lock, progress, is_kept=is_kept)
         found = metadata_of(store.folder, name)
         if found != _layout(node):
             raise Unfinished(f"the run has ended, and its result is {said_of(found)}, and not {said_of(_layout(node))}:"
