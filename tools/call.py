@@ -102,13 +102,14 @@ class Line:
             sys.stderr.flush()
 
 
-def as_without_python():
-    """Gives the program what a shell gives it: the end of this script ends it too, a closed pipe is the system's, and a file that is too
-    large is a fault of a write."""
+def as_without_python(mask):
+    """Gives the program what a shell gives it: the end of this script ends it too, the signals of a mask wait, a closed pipe is the
+    system's, and a file that is too large is a fault of a write."""
     with contextlib.suppress(OSError, AttributeError):
         ctypes.CDLL(None).prctl(1, signal.SIGKILL)
     signal.signal(signal.SIGPIPE, signal.SIG_DFL)
     signal.signal(signal.SIGXFSZ, signal.SIG_IGN)
+    signal.pthread_sigmask(signal.SIG_SETMASK, mask)
 
 
 class Progress:
@@ -147,12 +148,17 @@ def run(call, held=()):
         if child is not None:
             child.send_signal(number)
 
-    for number in ENDING:
-        # What is ignored stays so for the program too, as under nohup.
-        if signal.getsignal(number) is not signal.SIG_IGN:
-            signal.signal(number, pass_on)
-    child = subprocess.Popen(call.words, stderr=said.write_end, close_fds=False,
-                             preexec_fn=as_without_python)
+    # A signal that comes while the program is started waits until it can be passed on.
+    before = signal.pthread_sigmask(signal.SIG_BLOCK, ENDING)
+    try:
+        for number in ENDING:
+            # What is ignored stays so for the program too, as under nohup.
+            if signal.getsignal(number) is not signal.SIG_IGN:
+                signal.signal(number, pass_on)
+        child = subprocess.Popen(call.words, stderr=said.write_end, close_fds=False,
+                                 preexec_fn=lambda: as_without_python(before))
+    finally:
+        signal.pthread_sigmask(signal.SIG_SETMASK, before)
     said.begin()
     wait_for(child, progress, said)
     return child.returncode, said.told.decode("utf-8", "replace")

@@ -15,6 +15,7 @@ from typing import NamedTuple
 
 sys.dont_write_bytecode = True
 import crate_pages
+from said import usage_if_asked
 
 TOP = crate_pages.TOP
 CRATES = f"{TOP}/crates"
@@ -298,4 +299,5 @@ def main(words):
 
 
 if __name__ == "__main__":
+    usage_if_asked(__doc__)
     sys.exit(main(sys.argv[1:]))

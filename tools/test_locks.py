@@ -198,9 +198,7 @@ class Locks(WithProgram):
         self.refused("load", process=process)
         process.send_signal(signal.SIGKILL)
         process.wait()
-        # The program works on, and so it still holds the lock.
-        self.refused("load")
-        put(f"{self.top}/go")
+        # The program ends with it, and so the lock is free.
         self.program("cat >/dev/null; echo ok")
         self.assertTrue(wait_until(lambda: run(self.script, self.top, "load", text=LOADED).stdout == b"ok\n"))
 

@@ -5,10 +5,10 @@ from types import ModuleType
 from typing import TYPE_CHECKING, Any, Iterator, Literal, Mapping, Optional, Union, overload
 
 from . import _build as build, _missing as missing, _taking as taking, _views as views
-from ._callers import refuse_groups
 from ._collection import Collection
 from ._dtypes import DType, NDArray, as_dtype, as_literal
 from ._labels import labels_of
+from ._lines import refuse_groups
 from ._operators import Operators
 from ._refused import Refused
 from ._shapes import ChunksLike, Shape, numblocks, one_axis, product, some_axes

@@ -2,7 +2,7 @@
 from __future__ import annotations
 
 import sys
-from typing import Any
+from typing import Any, Iterator
 
 # How many calls may lie between a function of xarray and what it asks of a lazy array.
 _DEPTH = 40
@@ -24,13 +24,21 @@ LINES: dict[tuple[str, str], str] = {
     ("xarray.core.alignment", "reindex_variables"): "x.isel(..) by slices, so that no place is missing",
     **{("xarray.core.duck_array_ops", name): f"{_FLOATS}.{name}(..)" for name in ("std", "var", "median", "quantile")},
 }
+_GROUPS = "xarray.core.groupby"
+# What takes the place of x.groupby("time.month") - clim, as long as there is no taking by labels.
+ANOMALY = "x - (x[\"time.month\"] == clim.month).astype(\"int64\").dot(clim)"
 _LISTS = ("DataArrayRolling", "DatasetRolling", "GroupBy", "Resample")
+
+
+def _kinds(frame: Any) -> list[str]:
+    """Return the names of the classes of the object whose method a call is."""
+    return [kind.__name__ for kind in type(frame.f_locals.get("self")).__mro__]
 
 
 def _of_frame(module: str, frame: Any) -> str:
     found = LINES.get((module, frame.f_code.co_name), "")
-    if not found and module in ("xarray.core.rolling", "xarray.core.groupby"):
-        kinds = [kind.__name__ for kind in type(frame.f_locals.get("self")).__mro__]
+    if not found and module in ("xarray.core.rolling", _GROUPS):
+        kinds = _kinds(frame)
         # (a resample is a groupby too)
         found = next((LINES[module, name] for name in reversed(_LISTS) if name in kinds and (module, name) in LINES), "")
     # (duck_array_ops makes its functions by one, whose name each has)
@@ -39,19 +47,41 @@ def _of_frame(module: str, frame: Any) -> str:
     return found
 
 
-def line_of_caller() -> str:
-    """Return what to write in place of the function of xarray that asks, or nothing where none asks that is known."""
-    if "xarray" not in sys.modules:
-        return ""
-    frame, found = sys._getframe(1), ""
+def _of_xarray() -> Iterator[tuple[str, Any]]:
+    """Go over the calls of xarray on the stack, the innermost first: the module and the frame."""
+    frame: Any = sys._getframe(2) if "xarray" in sys.modules else None
     for _ in range(_DEPTH):
         if frame is None:
             break
         module = frame.f_globals.get("__name__", "")
         if module.startswith("xarray."):
-            found = _of_frame(module, frame) or found
-        frame = frame.f_back  # type: ignore[assignment]
+            yield module, frame
+        frame = frame.f_back
+
+
+def line_of_caller() -> str:
+    """Return what to write in place of the function of xarray that asks, or nothing where none asks that is known."""
+    found = ""
+    for module, frame in _of_xarray():
+        found = _of_frame(module, frame) or found
     return found
+
+
+def refuse_groups() -> None:
+    """Refuse a part that xarray's own groupby takes, by NotImplementedError: it takes one for each group. Its resample takes slices, and
+    stays."""
+    is_group, is_operator = False, False
+    for module, frame in _of_xarray():
+        if module == _GROUPS:
+            if "Resample" in _kinds(frame):
+                return
+            is_group, is_operator = True, is_operator or frame.f_code.co_name == "_binary_op"
+    if is_operator:
+        raise NotImplementedError("minus and plus of xarray's own groups take elements by labels, which the program hasn't. Nothing was computed."
+                                  f" Write {ANOMALY} over clim = x.cengmoat.groupby(\"time.month\").mean()")
+    if is_group:
+        raise NotImplementedError("xarray's own groupby takes each group by a list of places. Nothing was computed. Write"
+                                  f" {LINES[_GROUPS, 'GroupBy']}, after import cengmoat.xarray: it folds all groups in one pass")
 
 
 def with_line(text: str) -> str:

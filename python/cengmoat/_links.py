@@ -9,7 +9,7 @@ import contextlib
 import hashlib
 import os
 import stat
-from typing import TYPE_CHECKING
+from typing import TYPE_CHECKING, Optional
 
 from ._names import metadata_key, record_key, zarray_key
 from ._nodes import Graph, Node, in_order
@@ -74,12 +74,27 @@ def _link(folder: str, name: str, target: str) -> None:
         raise told(name, error) from None
 
 
-def check_unlinked(store: Store, name: str) -> None:
-    """Refuse a name under which a store with a work folder would store beside or through an array that it reads, by Exists."""
+def check_unlinked(store: Store, name: str, node: Optional[Node] = None) -> None:
+    """Refuse a name under which a store with a work folder would store beside, through or into what it reads, by Exists.
+
+    Parameters
+    ----------
+    store : Store
+        The store over the folder in which it works.
+    name : str
+        The name.
+    node : Node, optional
+        The expression that is stored.
+    """
+    path = os.path.join(store.folder, name)
     if store.source is not None and has_array(store.source, name):
         raise Exists(f"there is an array {name} in {store.source}, which is only read: take another name", key=name)
-    if store.source is not None and os.path.islink(os.path.join(store.folder, name)):
-        raise Exists(f"{os.path.join(store.folder, name)} is a link, and nothing is stored through it: take another name", key=name)
+    if store.source is not None and os.path.islink(path):
+        raise Exists(f"{path} is a link, and nothing is stored through it: take another name", key=name)
+    read = {it.folder for it in in_order(node) if it.op == "input"} if node is not None else set()
+    for folder in sorted(str(it) for it in {*read, store.source} - {None, store.folder}):
+        if is_below(folder, path):
+            raise Exists(f"{folder}, which is only read, is {path} or lies in it, and nothing is stored there: take another name", key=name)
 
 
 def has_array(folder: str, name: str) -> bool:

@@ -11,7 +11,8 @@ from typing import Callable, Optional, Sequence
 
 from ._dying import dies_with_parent
 from ._finding import SCRIPT, built_program, is_program
-from .errors import NoProgram, error_of
+from ._opening import at_most, read_regular
+from .errors import NoProgram, StoreFailed, error_of
 
 VARIABLE = "CENGMOAT_CUBED"
 LOG = logging.getLogger("cengmoat")
@@ -41,9 +42,8 @@ def program_of(top: str) -> Optional[str]:
 def _is_command(path: str) -> bool:
     """Return whether a file is the package's own command `cubed`, as pip installs it, which itself looks for the program."""
     try:
-        with open(path, "rb") as file:
-            head = file.read(MOST_HEAD)
-    except OSError:
+        head = read_regular(path, path, at_most(MOST_HEAD)) or b""
+    except StoreFailed:
         return False
     return head.startswith(b"#!") and b"from cengmoat" in head
 

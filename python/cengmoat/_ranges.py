@@ -118,9 +118,6 @@ def plain_key(key: Any, shape: Shape) -> tuple[Any, ...]:
     if any(axes[at] >= len(shape) for at in arrays):
         raise IndexError(f"{len(entries)} entries for {len(shape)} axes are too many")
     found = {at: as_places(entries[at], shape[axes[at]], axes[at]) for at in arrays}
-    if line_of_caller().startswith("x.cengmoat.groupby"):
-        # (it takes one part for each group, and a group that is no range would be refused in the midst of it)
-        refuse_places()
     # (beside an array an integer is one too, and their axes lie together only where nothing lies between them)
     joint = [at for at, entry in enumerate(entries) if at in found or not (entry is None or entry is Ellipsis or isinstance(entry, slice))]
     if joint[-1] - joint[0] + 1 != len(joint):

@@ -312,7 +312,7 @@ def store_node(node: Node, name: str, store: Optional[Store], progress: Optional
     """Store an expression under a name, and return the stored array's node."""
     check_free_name(name)
     found = store_of(node, store)
-    check_unlinked(found, name)
+    check_unlinked(found, name, node)
     graph = _graph(node, name, store)
     if executor is not None:
         check_executor(executor)

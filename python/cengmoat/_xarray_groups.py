@@ -12,8 +12,8 @@ import xarray
 
 from . import _groups as groups, array_api as xp
 from ._array import Array
-from ._callers import ANOMALY
 from ._dtypes import NDArray, as_int
+from ._lines import ANOMALY
 
 
 class Groups:

@@ -10,7 +10,8 @@ import xarray
 
 from ._dtypes import NDArray
 from ._store import Store
-from ._zarr_plain import Outline, fill_of, outline_of, read_json, read_plain
+from ._shapes import product
+from ._zarr_plain import MOST_BYTES, MOST_ELEMENTS, Outline, fill_of, outline_of, read_json, read_plain
 from .errors import CengmoatError, StoreFailed
 
 _conventions: Any = xarray.conventions
@@ -42,13 +43,20 @@ def _by_zarr(folder: str, name: str) -> NDArray:
     except ImportError:
         raise StoreFailed(f"the coordinate {name} of {folder} is read by zarr-python, which isn't installed", key=name) from None
     try:
-        return np.asarray(zarr.open_array(os.path.join(folder, name), mode="r")[...])
-    except Exception as error:
-        raise StoreFailed(f"the coordinate {name} of {folder} isn't read by zarr-python: {type(error).__name__}: {error}", key=name) from None
+        array = zarr.open_array(os.path.join(folder, name), mode="r")
+        if array.nbytes <= MOST_BYTES:
+            return np.asarray(array[...])
+        error: object = f"it has {array.nbytes} bytes, and {MOST_BYTES} are the most that is read at once"
+    except Exception as failed:
+        error = f"{type(failed).__name__}: {failed}"
+    raise StoreFailed(f"the coordinate {name} of {folder} isn't read by zarr-python: {error}", key=name)
 
 
 def _coordinate(store: Store, name: str, outline: Outline) -> Any:
     """Return a coordinate, which is read at once, and times decoded."""
+    if product(outline.shape) > MOST_ELEMENTS:
+        raise StoreFailed(f"the coordinate {name} of {store.home(name)} has {product(outline.shape)} elements, and {MOST_ELEMENTS} are the most that"
+                          f" is read at once: store[{name!r}] is a lazy array", key=name)
     try:
         values: Optional[NDArray] = store.read(name)
     except CengmoatError:

@@ -19,9 +19,10 @@ from ._metadata import DIMENSIONS_V2, MOST_LEVELS, MOST_TEXT, is_readable
 from ._opening import at_most, read_regular
 from ._shapes import Shape, numblocks, product
 
-# The bytes of a chunk, about, and the most that are read of one.
+# The bytes of a chunk, about; the most that are read of one, and the most elements of an array that is read at once.
 CHUNK_BYTES = 2**24
 MOST_BYTES = 2**31
+MOST_ELEMENTS = MOST_BYTES // 8
 TEXT = "string"
 FLOATS = ("float16", "float32", "float64")
 KINDS = "biufU"
@@ -191,6 +192,14 @@ def read_plain(folder: str, name: str, outline: Outline) -> Optional[NDArray]:
     StoreFailed
         Where something else than a regular file lies in a chunk's place, or the system refuses to read it.
     """
+    try:
+        return _read_plain(folder, name, outline)
+    except (ArithmeticError, AttributeError, TypeError, ValueError):
+        # (metadata of another form)
+        return None
+
+
+def _read_plain(folder: str, name: str, outline: Outline) -> Optional[NDArray]:
     its = outline.members
     kind, codecs, grid = its.get("data_type"), its.get("codecs"), its.get("chunk_grid")
     if outline.version != 3 or not (isinstance(codecs, list) and len(codecs) == 1 and isinstance(codecs[0], dict) and isinstance(grid, dict)):
@@ -202,7 +211,7 @@ def read_plain(folder: str, name: str, outline: Outline) -> Optional[NDArray]:
             "name": "default", "configuration": {"separator": "/"}}:
         return None
     chunks = tuple(int(side) for side in sides)
-    if len(chunks) != len(outline.shape) or any(side < 1 for side in chunks) or product(outline.shape) > MOST_BYTES // 8:
+    if len(chunks) != len(outline.shape) or any(side < 1 for side in chunks):
         return None
     is_big = (codecs[0].get("configuration") or {}).get("endian") == "big"
     dtype = np.dtype(object) if is_text else np.dtype(kind).newbyteorder(">" if is_big else "<")
@@ -223,9 +232,9 @@ def read_plain(folder: str, name: str, outline: Outline) -> Optional[NDArray]:
 
 def _texts_in(data: bytes, count: int) -> Optional[NDArray]:
     """Return the texts of a chunk, or None where it hasn't so many."""
-    found, at = np.full(count, "", object), 4
-    if len(data) < 4 or struct.unpack_from("<I", data)[0] != count:
+    if len(data) < 4 * (count + 1) or struct.unpack_from("<I", data)[0] != count:
         return None
+    found, at = np.full(count, "", object), 4
     for place in range(count):
         if at + 4 > len(data):
             return None
