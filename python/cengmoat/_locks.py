@@ -261,45 +261,58 @@ def _said(text: str) -> str:
     return "".join(it if it.isprintable() else ascii(it)[1:-1] for it in text)
 
 
-def _holders(descriptor: int, name: str) -> list[int]:
-    """Return the processes of this machine that hold a lock, as far as the system shows it: those that took it and live; else those that have
-    its file open, as a program whose starter has ended."""
-    found, its = [], os.fstat(descriptor)
-    place = f"{os.major(its.st_dev):02x}:{os.minor(its.st_dev):02x}:{its.st_ino}"
+def _holds(number: int, name: str, its: os.stat_result) -> Optional[bool]:
+    """Return whether a process of this machine has a lock's file open and locked, or None where the system doesn't show it."""
+    try:
+        for at in os.listdir(f"/proc/{number}/fd"):
+            with contextlib.suppress(FileNotFoundError):
+                path = f"/proc/{number}/fd/{at}"
+                if os.readlink(path).endswith(f"/{_key(name)}") and os.path.samestat(os.stat(path), its):
+                    with open(f"/proc/{number}/fdinfo/{at}", encoding="ascii", errors="replace") as file:
+                        if "FLOCK" in file.read(MOST_CONTENT):
+                            return True
+    except FileNotFoundError:
+        return False
+    except OSError:
+        return None
+    return False
+
+
+def _takers(its: os.stat_result) -> list[int]:
+    """Return the processes of this machine that took a lock and live, as far as the system tells: also those of other users."""
+    found, place = [], f"{os.major(its.st_dev):02x}:{os.minor(its.st_dev):02x}:{its.st_ino}"
     with contextlib.suppress(OSError, ValueError), open("/proc/locks", encoding="ascii") as file:
         rows = [line.split() for line in file]
         found = [int(row[4]) for row in rows if row[1:2] == ["FLOCK"] and row[5:6] == [place]]
-    living = [process for process in found if os.path.exists(f"/proc/{process}")]
-    return living or _openers(its, name)
+    return [process for process in found if os.path.exists(f"/proc/{process}")]
 
 
-def _openers(its: os.stat_result, name: str) -> list[int]:
-    """Return the processes of this machine, but for this one, that have a lock's file open."""
-    found = []
-    with contextlib.suppress(OSError):
-        for number in sorted(map(int, filter(str.isdigit, os.listdir("/proc")))):
-            with contextlib.suppress(OSError):
-                for at in os.listdir(f"/proc/{number}/fd") if number != os.getpid() else ():
-                    path = f"/proc/{number}/fd/{at}"
-                    if os.readlink(path).endswith(f"/{_key(name)}") and os.path.samestat(os.stat(path), its):
-                        found.append(number)
-                        break
-    return found
+def _worker(descriptor: int, name: str, pid: int) -> int:
+    """Return a process that holds a lock: the one that its file names; where that has ended, another one that took it or has the same open file."""
+    its = os.fstat(descriptor)
+    is_one = _holds(pid, name, its)
+    if is_one or pid == os.getpid():
+        return pid
+    takers = _takers(its)
+    if takers:
+        return pid if pid in takers else takers[0]
+    others = sorted(map(int, filter(str.isdigit, os.listdir("/proc")))) if is_one is False else []
+    return next((number for number in others if number != os.getpid() and _holds(number, name, its)), pid)
 
 
 def _refusal(folder: str, name: str) -> Locked:
     """Return the error that says who holds a lock; of those who share it one."""
     held: dict[str, Any] = {}
-    living: list[int] = []
+    here, worker = socket.gethostname(), 0
     with contextlib.suppress(OSError), _reading(folder, name) as descriptor:
-        held, living = _content(descriptor), _holders(descriptor, name)
-    here = socket.gethostname()
-    if held and living and held["host"] == here and held["pid"] not in (*living, os.getpid()):
-        # (who came last has ended)
-        held = {"pid": living[0], "host": here, "since": None}
+        held = _content(descriptor)
+        worker = _worker(descriptor, name, held["pid"]) if held and held["host"] == here else 0
     if not held:
         return Locked(f"{name} is being computed or stored by another process: wait until it has ended")
     pid, host, since = held["pid"], held["host"], held["since"]
+    if worker and worker != pid:
+        # (who took it last has ended)
+        pid, since = worker, None
     far = "" if host == here else f" on {_said(host)}"
     where = "this process, in another thread" if pid == os.getpid() else _said(f"process {pid}") + far
     when = "" if since is None else f", since {_said(since)}"
