@@ -167,6 +167,17 @@ class Runs(WithProgram):
         with self.assertRaises(cengmoat.Exists):
             cengmoat.Store(self.read, work=self.work, program=PROGRAM).save("out", self.data)
 
+    def test_no_result_goes_into_a_folder_that_is_read(self) -> None:
+        """Also where the folders that are read lie in the work folder."""
+        here = cengmoat.Store(self.read, work=self.folder, program=PROGRAM)
+        far = cengmoat.Store(self.other, program=PROGRAM)["t"]
+        for call in (lambda: (here["t"] + 1).store(os.path.basename(self.read)), lambda: here.save(os.path.basename(self.read), self.data),
+                     lambda: (here["t"] + far).store(os.path.basename(self.other))):
+            with self.assertRaises(cengmoat.Exists) as found:
+                call()
+            self.assertIn("nothing is stored there", str(found.exception))
+        self.same((here["t"] + far).store("sum").compute(), self.data * 4)
+
     def test_a_replaced_array_is_told(self) -> None:
         t = self.here["t"]
         (t + 1).compute()

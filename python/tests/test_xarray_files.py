@@ -157,6 +157,31 @@ class Datasets(WithProgram):
         with open(os.path.join(self.folder, key), encoding="utf-8") as file:
             return json.load(file)
 
+    def test_coordinates_of_other_forms_and_of_any_size(self) -> None:
+        """None of them is read for long, and none is an error of Python's own."""
+        here = self.store()
+        here.save("t", np.arange(3), dims=("y",), attrs={"coordinates": "other"})
+        whole = {"zarr_format": 3, "node_type": "array", "data_type": "float64", "shape": [3], "chunk_key_encoding":
+                 {"name": "default", "configuration": {"separator": "/"}}, "chunk_grid": {"name": "regular", "configuration": {"chunk_shape": [3]}},
+                 "codecs": [{"name": "bytes", "configuration": {"endian": "little"}}], "fill_value": 0.0, "dimension_names": ["y"], "attributes": {}}
+        text = {"data_type": "string", "codecs": [{"name": "vlen-utf8"}], "fill_value": ""}
+        path = os.path.join(here.folder, "other")
+        os.makedirs(os.path.join(path, "c"))
+        for changed in ({"data_type": "int7"}, {"fill_value": "nought"}, {"fill_value": None, "data_type": "int32"}, {"chunk_grid": {"name": "regular", "configuration": [3]}},
+                        {"chunk_grid": {"name": "regular", "configuration": {"chunk_shape": ["a"]}}}, {"shape": [2**62]}, {"shape": [-3]},
+                        {"shape": [2**40], "chunk_grid": {"name": "regular", "configuration": {"chunk_shape": [2**40]}}},
+                        {**text, "chunk_grid": {"name": "regular", "configuration": {"chunk_shape": [2**50]}}}):
+            with open(os.path.join(path, "zarr.json"), "w", encoding="utf-8") as file:
+                json.dump({**whole, **changed}, file)
+            with open(os.path.join(path, "c", "0"), "wb") as chunk:
+                chunk.write(b"\x03\0\0\0" + bytes(20))
+            with self.assertWarnsRegex(UserWarning, "a coordinate is left out: .*other"):
+                ds = self.open(here.folder)
+            self.assertEqual((sorted(ds.variables), "other" in ds.coords), (["t"], False), changed)
+        with open(os.path.join(path, "zarr.json"), "w", encoding="utf-8") as file:
+            json.dump(whole, file)
+        self.same(self.open(here.folder)["other"].values, np.frombuffer(b"\x03\0\0\0" + bytes(20), "<f8"))
+
     def test_by_one_run_and_the_chunks_stay(self) -> None:
         ds = self.open(self.written())
         runs: list[list[str]] = []
