@@ -9,10 +9,13 @@ import sys
 from typing import Any, Mapping, Optional, Sequence
 
 from ._dtypes import NDArray
+from ._lines import with_line
 from ._nodes import Graph, Node
 
 # xarray hands collections that it writes to dask.array.store, which takes Dask's own arrays alone; other arrays it writes by parts.
 _WRITER = ("xarray.backends.common", "add")
+# xarray's map_blocks asks for the keys of all chunks, and there is one key.
+_BLOCKS = "xarray.core.parallel"
 # How many calls lie between it and this module.
 _DEPTH = 6
 
@@ -57,6 +60,9 @@ class Collection:
         return token_of(self.node)
 
     def __dask_keys__(self) -> list[str]:
+        above: Any = sys._getframe(1).f_back
+        if above is not None and above.f_globals.get("__name__") == _BLOCKS:
+            raise NotImplementedError(with_line("there is no map_blocks of lazy arrays"))
         return [f"cengmoat-{token_of(self.node)}"]
 
     def __dask_graph__(self) -> Optional[dict[str, Any]]:

@@ -5,6 +5,7 @@ from typing import Any, Optional, Sequence, Union
 
 from . import _build as build
 from ._dtypes import Literal, check_literal
+from ._missing import kept_missing
 from ._nodes import Node
 from ._offers import offers_op
 from ._program import find_program
@@ -29,21 +30,23 @@ def has(op: str, nodes: Sequence[Node], members: dict[str, object], unknown: boo
 
 
 def extreme(op: str, args: Sequence[Argument]) -> Node:
-    """Return the node of `maximum` or `minimum` of two arguments, one of which at least is an array.
+    """Return the node of `maximum` or `minimum` of two arguments, one of which at least is an array. What is missing in one stays missing.
 
     Raises
     ------
     TypeError, ValueError
         As ``elementwise``.
     """
-    if has(op, [arg for arg in args if isinstance(arg, Node)], {"args": ["x", "x"]}):
-        return build.elementwise(op, args)
+    nodes = [arg for arg in args if isinstance(arg, Node)]
+    if has(op, nodes, {"args": ["x", "x"]}):
+        return kept_missing(build.elementwise(op, args), nodes)
     holds = build.elementwise("greater_equal" if op == "maximum" else "less_equal", args)
-    return build.where(holds, args[0], args[1])
+    return kept_missing(build.where(holds, args[0], args[1]), nodes)
 
 
 def clip(x: Node, low: Any, high: Any) -> Node:
     """Return the node of the lesser of `high` and the greater of `low` and x; None is no bound, and an array is one for each element.
+    What is missing stays missing.
 
     Raises
     ------
@@ -55,6 +58,6 @@ def clip(x: Node, low: Any, high: Any) -> Node:
     if len(bounds) == 2 and not any(isinstance(bound, Node) for bound in bounds) and has("clip", [x], {"args": ["x"], "min": 0, "max": 1}):
         for bound in bounds:
             check_literal(bound, x.dtype, "clip")
-        return build.make_node("clip", (x,), x.dtype, x.shape, x.chunks, {"min": low, "max": high})
+        return kept_missing(build.make_node("clip", (x,), x.dtype, x.shape, x.chunks, {"min": low, "max": high}), [x])
     found = x if low is None else extreme("maximum", [x, low])
     return found if high is None else extreme("minimum", [found, high])

@@ -226,6 +226,21 @@ def _said(text: str) -> str:
     return "".join(it if it.isprintable() else ascii(it)[1:-1] for it in text)
 
 
+def holders(folder: str, name: str) -> list[int]:
+    """Return the processes of this machine, but for this one, that have a lock's file open, as far as the system shows it."""
+    found = []
+    with contextlib.suppress(OSError), _reading(folder, name) as descriptor:
+        its = os.fstat(descriptor)
+        for number in sorted(map(int, filter(str.isdigit, os.listdir("/proc")))):
+            with contextlib.suppress(OSError):
+                for at in os.listdir(f"/proc/{number}/fd") if number != os.getpid() else ():
+                    path = f"/proc/{number}/fd/{at}"
+                    if os.readlink(path).endswith(f"/{_key(name)}") and os.path.samestat(os.stat(path), its):
+                        found.append(number)
+                        break
+    return found
+
+
 def _refusal(folder: str, name: str) -> Locked:
     """Return the error that says who holds a lock."""
     held: dict[str, Any] = {}
@@ -234,7 +249,14 @@ def _refusal(folder: str, name: str) -> Locked:
     if not held:
         return Locked(f"{name} is being computed or stored by another process: wait until it has ended")
     pid, host, since = held["pid"], held["host"], held["since"]
-    far = "" if host == socket.gethostname() else f" on {_said(host)}"
+    is_here = host == socket.gethostname()
+    far = "" if is_here else f" on {_said(host)}"
+    if is_here and pid != os.getpid():
+        # (who took it may have ended, or couldn't write that it did, and another process may work with the same open file)
+        workers = holders(folder, name)
+        if workers and pid not in workers:
+            return Locked(f"{name} is being computed or stored by {_said(f'process {workers[0]}')}: wait until it has ended, or end it",
+                          pid=workers[0], host=host)
     where = "this process, in another thread" if pid == os.getpid() else _said(f"process {pid}") + far
     return Locked(f"{name} is being computed or stored by {where}, since {_said(since)}: wait until it has ended", pid=pid, host=host, since=since)
 

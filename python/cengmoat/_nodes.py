@@ -6,6 +6,7 @@ from typing import TYPE_CHECKING, Any, Iterator, Mapping, Optional, Sequence, Un
 
 from ._dtypes import DType, Literal, NDArray
 from ._shapes import Shape, product
+from .errors import BadExpression
 
 if TYPE_CHECKING:
     from ._metadata import Metadata
@@ -47,9 +48,17 @@ class Node:
         Of an input, the layout that was read when it was made.
     folder : str or None
         Of an input, the folder in which it lies.
+    count : int
+        At most how many different nodes its expression has, itself included.
+
+    Raises
+    ------
+    BadExpression
+        Where its expression has more than 256 different nodes.
     """
 
-    __slots__ = ("op", "args", "members", "dtype", "shape", "chunks", "store", "data", "takes_unfinished", "meta", "folder")
+    __slots__ = ("op", "args", "members", "dtype", "shape", "chunks", "store", "data", "takes_unfinished", "meta", "folder",
+                 "count")
 
     def __init__(self, op: str, args: Sequence[Union[Node, Literal]], members: Mapping[str, Any], dtype: DType, shape: Shape,
                  chunks: Shape) -> None:
@@ -62,6 +71,11 @@ class Node:
         self.store: Optional[Store] = None
         for arg in self.arrays:
             self.store = _joined(op, self.store, arg.store)
+        # (each of the arguments' nodes may stand in several of them, so they are counted only where the sum is above the limit)
+        self.count: int = 1 + sum(arg.count for arg in self.arrays)
+        if self.count > MOST_NODES:
+            self.count = len(Graph(self).nodes)
+            check_count(self.count)
 
     @classmethod
     def stored(cls, store: Store, name: str, meta: Metadata, takes_unfinished: bool, folder: Optional[str] = None) -> Node:
@@ -123,6 +137,13 @@ def _joined(op: str, one: Optional[Store], other: Optional[Store]) -> Optional[S
         raise ValueError(f"{op} of arrays of two stores, {one.folder} and {other.folder}: an expression over several folders is run in one of yours."
                          f" Write cengmoat.Store({one.folder!r}, work=\"scratch/mine\") for the first")
     return other
+
+
+def check_count(count: int) -> None:
+    """Refuse an expression of more than 256 different nodes, by BadExpression."""
+    if count > MOST_NODES:
+        raise BadExpression(code=7, node=0, advice=f"This expression has {count} different nodes, and {MOST_NODES} are allowed:"
+                            " y = x.store(\"part\") computes a part of it and gives it as a stored array, with which to go on.")
 
 
 def _restored(rows: list[tuple[list[tuple[bool, Any]], dict[str, Any]]]) -> Node:

@@ -58,6 +58,14 @@ def mapped(path: str, paths: Mapping[str, str]) -> str:
     return path
 
 
+def check_executor(executor: Any) -> None:
+    """Refuse what is no executor, by a TypeError."""
+    if isinstance(executor, type) or not callable(getattr(executor, "submit", None)):
+        kind = f"the class {executor.__name__}" if isinstance(executor, type) else f"one of {type(executor).__name__}"
+        raise TypeError(f"executor= is an object with submit(f, *args), as concurrent.futures.ThreadPoolExecutor(4) or dask.distributed.Client(..),"
+                        f" and not {kind}. Nothing was stored")
+
+
 class Engine:
     """Hands the parts of a run to an executor.
 

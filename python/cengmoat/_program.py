@@ -9,6 +9,7 @@ import subprocess
 import time
 from typing import Callable, Optional, Sequence
 
+from ._dying import dies_with_parent
 from ._finding import SCRIPT, built_program, is_program
 from .errors import NoProgram, error_of
 
@@ -92,7 +93,7 @@ def environment() -> dict[str, str]:
 
 def call_program(words: Sequence[str], text: str, *, expression_of: Callable[[int], Optional[str]] = lambda node: None,
                  locks: Sequence[int] = (), watch: Optional[Callable[[], float]] = None) -> str:
-    """Call the program and return what it printed.
+    """Call the program and return what it printed. It ends where this process does.
 
     Parameters
     ----------
@@ -115,9 +116,9 @@ def call_program(words: Sequence[str], text: str, *, expression_of: Callable[[in
     began = time.monotonic()
     try:
         process = subprocess.Popen(list(words), stdin=subprocess.PIPE, stdout=subprocess.PIPE, stderr=subprocess.PIPE,
-                                   env=environment(), pass_fds=list(locks))
-    except OSError as error:
-        raise NoProgram(f"{words[0]} doesn't start: {error.strerror}") from None
+                                   env=environment(), pass_fds=list(locks), preexec_fn=dies_with_parent())
+    except (OSError, subprocess.SubprocessError) as error:
+        raise NoProgram(f"{words[0]} doesn't start: {getattr(error, 'strerror', None) or error}") from None
     try:
         said = _communicate(process, text.encode(), watch)
     except BaseException:

@@ -9,8 +9,9 @@ import tempfile
 from dataclasses import replace
 from typing import TYPE_CHECKING, Any, Iterator, Mapping, Optional
 
+from ._calls import reading
 from ._dtypes import NDArray
-from .errors import BadExpression, NoArray, OtherPlan, OverMemory, Stale, Unfinished, strange
+from .errors import NoArray, NotRemoved, OtherPlan, OverMemory, Stale, Unfinished, strange
 from ._files import read_index_of, write_file
 from ._fit import fitting_chunks
 from ._index import read_index
@@ -20,16 +21,17 @@ from ._links import check_unlinked, is_linked, link_inputs, link_names
 from ._locks import locked
 from ._metadata import MOST_TEXT, Metadata
 from ._names import check_free_name, check_name, is_own, metadata_key, record_key
-from ._nodes import MOST_NODES, Graph, Node, expression, in_order
+from ._nodes import Graph, Node, check_count, expression, in_order
 from ._offers import offers_words
 from ._opening import at_most, read_regular
-from ._parts import Engine, read_steps
+from ._packing import missing_of
+from ._parts import Engine, check_executor, read_steps
 from ._plans import Plan, Report, read_plan, read_report
 from ._program import call_program
 from ._progress import Bar, is_wanted
-from ._removing import remove_between
+from ._removing import Removal, remove_between
 from ._status import check_finished, has_record, is_finished, metadata_of
-from ._temporary import memory_names, memory_nodes, memory_stored, new_name, sweep
+from ._temporary import memory_names, memory_nodes, memory_stored, new_name, sweep, uninterrupted
 
 if TYPE_CHECKING:
     from ._store import Store
@@ -82,9 +84,7 @@ def _graph(node: Node, name: str, store: Optional[Store]) -> Graph:
     """
     found = node.store if store is None else store
     graph = Graph(node, {**memory_names(node, name), **({} if found is None else link_names(node, found.working()))})
-    if len(graph.nodes) > MOST_NODES:
-        raise BadExpression(code=7, node=0, advice=f"This expression has {len(graph.nodes)} different nodes, and {MOST_NODES} are allowed:"
-                            " y = x.store(\"part\") computes a part of it and gives it as a stored array, with which to go on.")
+    check_count(len(graph.nodes))
     return graph
 
 
@@ -187,8 +187,8 @@ def plan_node(node: Node, store: Optional[Store], fusion: Optional[int] = None) 
 
 
 def _run(store: Store, graph: Graph, name: str, lock: int, progress: Optional[bool], command: str = "run",
-         fusion: Optional[int] = None) -> Report:
-    """Run an expression whose arrays in memory are stored, and return the report."""
+         fusion: Optional[int] = None, is_kept: bool = True) -> Report:
+    """Run an expression whose arrays in memory are stored, and return the report. What isn't kept needn't be on the disk."""
     text = graph.text(name)
     bar, is_done = None, False
     most = max(node.chunk_bytes for node in graph.nodes)
@@ -197,7 +197,7 @@ def _run(store: Store, graph: Graph, name: str, lock: int, progress: Optional[bo
             label = expression(graph.nodes[graph.out], LABEL) if is_own(name) else name
             bar = Bar(store.folder, name, _ask_plan(store, store.folder, graph, text, fusion), label)
         try:
-            said = call_program(store.words(command, is_temporary=is_own(name), fusion=fusion), text, expression_of=graph.expression,
+            said = call_program(store.words(command, is_temporary=not is_kept, fusion=fusion), text, expression_of=graph.expression,
                                 locks=[lock], watch=None if bar is None else bar.watch)
             is_done = True
         finally:
@@ -261,18 +261,53 @@ def _check_record(store: Store, graph: Graph, name: str, fusion: int) -> None:
                         f" store.remove({name!r}) removes it.")
 
 
+def _make_room(store: Store, node: Node, name: str, fusion: int) -> None:
+    """Remove the result that stands under a name, finished or not, once the plan of what takes its place is accepted.
+
+    Raises
+    ------
+    NotRemoved
+        Where something else lies there.
+    CengmoatError
+        Where the new plan isn't accepted: then nothing is removed.
+    """
+    old = Removal(store.folder, name)
+    if old.is_nothing:
+        return
+    if old.is_link or old.has_array and not old.has_record:
+        raise NotRemoved(f"{name} is {'a link' if old.is_link else 'an array that no run made'}, and overwrite=True removes results alone:"
+                         f" store.remove({name!r}, inputs=True) removes it", name=name)
+    old.check(inputs=False)
+    plan_node(node, store.owner, fusion)
+    with uninterrupted():
+        old.remove()
+
+
+def _check_overwrite(graph: Graph, name: str, overwrite: bool, resume: bool) -> None:
+    """Refuse to overwrite what is read, or what is to be gone on with, by a ValueError."""
+    if overwrite and resume:
+        raise ValueError("resume=True goes on with a result and overwrite=True removes it: say one of both")
+    if overwrite and name in graph.inputs:
+        raise ValueError(f"x.store({name!r}, overwrite=True): the expression reads {name}, so it isn't removed: store it under another name")
+
+
 def store_node(node: Node, name: str, store: Optional[Store], progress: Optional[bool], resume: bool, keep: bool,
-               explain: bool = False, executor: Any = None, paths: Optional[Mapping[str, str]] = None) -> Node:
+               explain: bool = False, executor: Any = None, paths: Optional[Mapping[str, str]] = None, overwrite: bool = False) -> Node:
     """Store an expression under a name, and return the stored array's node."""
     check_free_name(name)
     found = store_of(node, store)
     check_unlinked(found, name)
     graph = _graph(node, name, store)
+    if executor is not None:
+        check_executor(executor)
+    _check_overwrite(graph, name, overwrite, resume)
     fusion = _fusion_of(found, name) if resume else found.fusion
     if explain:
         print(plan_node(node, found.owner, fusion))
     with telling(f"x.store({name!r})", found.folder, name), locked(found.folder, name) as lock:
         _check_inputs(found, graph)
+        if overwrite:
+            _make_room(found, node, name, fusion)
         goes_on = resume and has_record(found.folder, name)
         if goes_on:
             _check_record(found, graph, name, fusion)
@@ -289,13 +324,17 @@ def store_node(node: Node, name: str, store: Optional[Store], progress: Optional
 
 
 def _label(folder: str, name: str, node: Node) -> None:
-    """Write the names of axes and the attributes of a result into its metadata, where it has any."""
+    """Write the names of axes and the attributes of a result into its metadata, where it has any, and the number for what is missing."""
     meta = metadata_of(folder, name)
     names, attributes = labels_of(node)
     dimensions = names if any(names) else None
-    if meta is None or (meta.dimensions, dict(meta.attributes)) == (dimensions, attributes):
+    if meta is None:
         return
-    text = replace(meta, dimensions=dimensions, attributes=attributes).text().encode()
+    # (a chunk that is lost later on is missing, and no number)
+    fill = next(iter(missing_of(attributes, meta.dtype)), meta.fill)
+    if (meta.dimensions, dict(meta.attributes), meta.fill) == (dimensions, attributes, fill):
+        return
+    text = replace(meta, dimensions=dimensions, attributes=attributes, fill=fill).text().encode()
     if len(text) <= MOST_TEXT:
         write_file(folder, metadata_key(name), text)
 
@@ -329,7 +368,8 @@ def compute_node(node: Node, store: Optional[Store], progress: Optional[bool], e
     with _some_store(node, store) as found:
         its = node.stored_as
         if its is not None:
-            return read_node(its)
+            with reading("x.compute()", found.folder):
+                return read_node(its)
         if explain:
             print(plan_node(node, found.owner))
         name = new_name(found.folder)
@@ -340,13 +380,44 @@ def compute_node(node: Node, store: Optional[Store], progress: Optional[bool], e
 
 def _computed(store: Store, graph: Graph, name: str, progress: Optional[bool]) -> NDArray:
     """Run an expression under a temporary name, and read its result."""
+    with _ran(store, graph, name, progress, False) as found:
+        return read_index_of(store.folder, name, found, read_index(..., found.shape), is_whole=True)
+
+
+@contextlib.contextmanager
+def _ran(store: Store, graph: Graph, name: str, progress: Optional[bool], is_kept: bool) -> Iterator[Metadata]:
+    """Run an expression under a temporary name, and give the layout of its result, which is removed afterwards."""
     _check_inputs(store, graph)
     sweep(store.folder)
     node = graph.nodes[graph.out]
     with locked(store.folder, name, remove=True) as lock, memory_stored(store.folder, graph, lock, [name]):
-        _run(store, graph, name, lock.descriptor, progress)
+        _run(store, graph, name, lock.descriptor, progress, is_kept=is_kept)
         found = metadata_of(store.folder, name)
         if found != _layout(node):
             raise Unfinished(f"the run has ended, and its result is {said_of(found)}, and not {said_of(_layout(node))}:"
                              " another program removed or replaced its files")
-        return read_index_of(store.folder, name, found, read_index(..., node.shape), is_whole=True)
+        assert found is not None
+        yield found
+
+
+@contextlib.contextmanager
+def result_of(node: Node, progress: Optional[bool], call: str) -> Iterator[tuple[str, str, Metadata, bool]]:
+    """Give the folder, name and layout of the stored array of an expression, and whether its files are the package's own and may be moved.
+
+    A stored array is given as it is. Any other is computed by one run, and what of it wasn't moved is removed afterwards.
+    """
+    with _some_store(node, None) as found:
+        its = node.stored_as
+        if its is not None:
+            folder = its.folder or found.folder
+            with telling(call, folder, its.members["name"], True):
+                check_fresh(found, its)
+                if not its.takes_unfinished:
+                    check_finished(folder, its.members["name"])
+                assert its.meta is not None
+                yield folder, its.members["name"], its.meta, False
+            return
+        name = new_name(found.folder)
+        graph = _graph(node, name, found.owner)
+        with telling(call, found.folder, name, True), _ran(found, graph, name, progress, True) as meta:
+            yield found.folder, name, meta, True

@@ -6,12 +6,13 @@ import copy
 import difflib
 import json
 import os
-from typing import Any, Callable, Iterator, Mapping, NoReturn, Optional, Sequence, Union
+from typing import Any, Callable, ItemsView, Iterator, Mapping, NoReturn, Optional, Sequence, Union, ValuesView
 
 import numpy as np
 
 from ._array import Array
 from ._build import astype
+from ._calls import reading
 from ._dtypes import NDArray, as_dtype, as_int, check_unmasked
 from .errors import NoArray, NotRemoved
 from ._files import read_index_of
@@ -25,9 +26,10 @@ from ._mounts import reports_late
 from ._nodes import Node
 from ._offers import offers_words
 from ._plans import Report
+from ._readable import ReadableItems, ReadableValues, readable
 from ._program import find_program
 from ._removing import Removal
-from ._saving import check_absent, write_array
+from ._saving import check_absent, write_array, write_group
 from ._shapes import ChunksLike, as_chunks, check_limits
 from ._sizes import as_bytes
 from ._sources import own_chunks
@@ -205,6 +207,18 @@ class Store(Mapping[str, Array]):
     def __contains__(self, name: object) -> bool:
         return name in self.names()
 
+    def items(self) -> ItemsView[str, Array]:
+        """Return the names with their lazy arrays, without those that can't be read; `unread` says why they can't."""
+        return ReadableItems(self)
+
+    def values(self) -> ValuesView[Array]:
+        """Return the lazy arrays of `items`."""
+        return ReadableValues(self)
+
+    def unread(self) -> dict[str, str]:
+        """Return why each array that `items` passes over can't be read, by name: as compressed, of floats, or unfinished."""
+        return {name: why for name, _, why in readable(self) if why}
+
     # (two stores are the same if they are one object: their arrays aren't compared)
     __eq__ = object.__eq__
     __hash__ = object.__hash__
@@ -258,9 +272,10 @@ class Store(Mapping[str, Array]):
         TypeError, ValueError
             Where the name isn't one.
         """
-        meta = self._layout(name)
-        if not unfinished:
-            check_finished(self.home(name), name)
+        with reading(f"store[{name!r}]", self.folder):
+            meta = self._layout(name)
+            if not unfinished:
+                check_finished(self.home(name), name)
         node = Node.stored(self, name, meta, unfinished, self.home(name))
         return Array(astype(node, meta.seen_dtype))
 
@@ -315,6 +330,7 @@ class Store(Mapping[str, Array]):
         with telling(f"store.save({name!r}, ..)", folder, name, True), locked(folder, name):
             check_absent(folder, name)
             write_array(folder, name, meta, data)
+            write_group(folder)
         return self.array(name)
 
     def read(self, name: str, index: Any = ..., *, unfinished: bool = False) -> NDArray:
@@ -338,15 +354,17 @@ class Store(Mapping[str, Array]):
         IndexError, ValueError, NotImplementedError
             Where the index isn't one of the array.
         """
-        meta = self._layout(name)
-        if not unfinished:
-            check_finished(self.home(name), name)
-        found = read_index_of(self.home(name), name, meta, read_index(index, meta.shape))
+        with reading(f"store.read({name!r})", self.folder):
+            meta = self._layout(name)
+            if not unfinished:
+                check_finished(self.home(name), name)
+            found = read_index_of(self.home(name), name, meta, read_index(index, meta.shape))
         return found != 0 if meta.is_truth else found
 
     def status(self) -> Status:
-        """Return the name, type, shape, stored chunks, state and bytes of each array, of unfinished ones too."""
-        return Status([status_of(self.home(name), name) for name in self._all(all_names)])
+        """Return the name, type, shape, whole chunks, state and bytes of each array, also of those that are unfinished or can't be read."""
+        with reading("store.status()", self.folder):
+            return Status([status_of(self.home(name), name) for name in self._all(lambda folder: all_names(folder, True))])
 
     def remove(self, name: str, *, inputs: bool = False) -> list[str]:
         """Remove an array, the record of the run that made it, and all on the way to it.
@@ -380,8 +398,9 @@ class Store(Mapping[str, Array]):
         if self.work is not None and self.home(check_name(name)) == self.folder and has_array(self.folder, name):
             raise NotRemoved(f"{name} isn't removed: it lies in {self.folder}, which is only read", name=name)
         folder = self.working().folder
-        if Removal(folder, check_name(name)).is_nothing:
-            raise self._missing(name)
+        with reading(f"store.remove({name!r})", folder):
+            if Removal(folder, check_name(name)).is_nothing:
+                raise self._missing(name)
         with telling(f"store.remove({name!r})", folder, name), locked(folder, name, remove=True) as lock, uninterrupted():
             found = Removal(folder, name)
             found.check(inputs)

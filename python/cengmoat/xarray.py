@@ -12,8 +12,10 @@ from ._array import Array
 from ._xarray_decode import decoded
 from ._xarray_groups import Bins, Groups, grouped, resampled
 from ._xarray_rolling import Rolling, rolled
+from ._xarray_open import open_dataset
+from ._xarray_write import DatasetAccessor, Path, write_array_of
 
-__all__ = ["Accessor", "Bins", "Groups", "Rolling"]
+__all__ = ["Accessor", "Bins", "DatasetAccessor", "Groups", "Rolling", "open_dataset"]
 
 _register: Any = xarray.register_dataarray_accessor
 
@@ -90,3 +92,10 @@ class Accessor:
             Where Dask isn't installed.
         """
         return decoded(self._lazy("decode", "xarray.decode_cf decodes others"))
+
+    def to_zarr(self, path: Path, name: Optional[str] = None, *, zarr_format: Optional[int] = None, progress: Optional[bool] = None) -> None:
+        """Compute the array by one run and write it to a folder with its coordinates, so that `xarray.open_zarr(path)` opens it.
+
+        As `DatasetAccessor.to_zarr`, of one array; `name` is the array's, else the one that it has.
+        """
+        write_array_of(self.array, path, name, zarr_format, progress)

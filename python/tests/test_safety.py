@@ -585,7 +585,7 @@ class Rights(Case):
         os.rmdir(os.path.join(folder, ".locks"))
         store = cengmoat.Store(folder)
         store.read("t"), store["t"].compute(), store.status(), list(store.items())
-        self.assertEqual(os.listdir(folder), ["t"])
+        self.assertEqual(sorted(os.listdir(folder)), ["t", "zarr.json"])
         os.mkdir(os.path.join(folder, ".locks"))
         store.status(), store.read("t")
         self.assertEqual(os.listdir(os.path.join(folder, ".locks")), [])

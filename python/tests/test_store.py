@@ -399,13 +399,28 @@ class Known(Case):
         graph = cengmoat._nodes.Graph(((t + 1) * (t + 1) + (t + 1)).node)
         self.assertEqual([node.op for node in graph.nodes], ["input", "add", "multiply", "add"])
         deep = t
-        for _ in range(5000):
+        for _ in range(255):
             deep = deep + deep
-        self.assertEqual(len(cengmoat._nodes.Graph(deep.node).nodes), 5001)
-        with self.assertRaises(cengmoat.BadExpression) as found:
-            deep.compute()
-        self.assertIn("5001", str(found.exception))
-        self.assertEqual((found.exception.status, found.exception.code), (3, 7))
+        self.assertEqual(len(cengmoat._nodes.Graph(deep.node).nodes), 256)
+
+    def test_too_many_nodes_are_refused_when_they_are_written(self) -> None:
+        t = self.store().save("t", np.ones(3, "int8"))
+        one, chain = t, t
+        for number in range(255):
+            one, chain = one + one, chain + number % 100
+        for last in (lambda: one + one, lambda: chain + 1, lambda: chain[1:], lambda: chain.sum(), lambda: one + chain):
+            with self.assertRaises(cengmoat.BadExpression) as found:
+                last()
+            self.assertEqual((found.exception.status, found.exception.code), (3, 7))
+            self.assertRegex(str(found.exception), r"has (257|512) different nodes, and 256 are allowed: y = x.store")
+        # (what stands in both sides is counted once)
+        self.assertEqual(len(cengmoat._nodes.Graph(((t + 1) * (t + 1)).node).nodes), 3)
+        half = t
+        for number in range(126):
+            half = half + number % 100
+        self.assertEqual((half * half * half + half).node.count, 130)
+        import pickle
+        self.assertEqual(pickle.loads(pickle.dumps(half)).node.count, 127)
 
 
 if __name__ == "__main__":
