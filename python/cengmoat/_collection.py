@@ -15,7 +15,7 @@ from ._nodes import Graph, Node
 # xarray hands collections that it writes to dask.array.store, which takes Dask's own arrays alone; other arrays it writes by parts.
 _WRITER = ("xarray.backends.common", "add")
 # xarray's map_blocks asks for the keys of all chunks, and there is one key.
-_BLOCKS = "xarray.core.parallel"
+_BLOCKS = "parallel"
 # How many calls lie between it and this module.
 _DEPTH = 6
 
@@ -61,7 +61,8 @@ class Collection:
 
     def __dask_keys__(self) -> list[str]:
         above: Any = sys._getframe(1).f_back
-        if above is not None and above.f_globals.get("__name__") == _BLOCKS:
+        module = "" if above is None else str(above.f_globals.get("__name__"))
+        if module.startswith("xarray.") and module.endswith(f".{_BLOCKS}"):
             raise NotImplementedError(with_line("there is no map_blocks of lazy arrays"))
         return [f"cengmoat-{token_of(self.node)}"]
 

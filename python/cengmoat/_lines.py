@@ -7,34 +7,34 @@ from typing import Any
 # How many calls may lie between a function of xarray and what it asks of a lazy array.
 _DEPTH = 40
 _FLOATS = "x.cengmoat.decode()"
-# By the module and the function, or any of the module; the outermost call that is here counts.
+# By the last name of the module, which xarray has moved at times, and the function, or the class of its object. The outermost call counts.
 LINES: dict[tuple[str, str], str] = {
-    ("xarray.core.rolling", "DataArrayRolling"): "x.cengmoat.rolling(..), as in x.cengmoat.rolling(time=7).sum()",
-    ("xarray.core.rolling", "DatasetRolling"): "x.cengmoat.rolling(..) of each array, as in x.cengmoat.rolling(time=7).sum()",
-    ("xarray.core.groupby", "GroupBy"): "x.cengmoat.groupby(..), as in x.cengmoat.groupby(\"time.month\").sum()",
-    ("xarray.core.groupby", "Resample"): "x.cengmoat.resample(..), as in x.cengmoat.resample(time=\"M\").sum()",
-    ("xarray.core.computation", "_calc_idxminmax"): "x.time[x.argmax(\"time\").compute()] for x.idxmax(\"time\"), and argmin for idxmin",
-    ("xarray.core.missing", "ffill"): f"{_FLOATS}.ffill(..)",
-    ("xarray.core.missing", "bfill"): f"{_FLOATS}.bfill(..)",
-    ("xarray.core.missing", "interp"): f"{_FLOATS}.interp(..)",
-    ("xarray.core.parallel", "map_blocks"): f"{_FLOATS}.map_blocks(f), or x.data.to_dask().map_blocks(f) over NumPy's arrays",
-    ("xarray.core.duck_array_ops", "where_method"): "x.where(cond, fill), as in x.where(x > 3, 0)",
-    ("xarray.core.variable", "_shift_one_dim"): "x.shift(.., fill_value=0)",
-    ("xarray.core.variable", "pad"): "x.pad(.., constant_values=0)",
-    ("xarray.core.alignment", "reindex_variables"): "x.isel(..) by slices, so that no place is missing",
-    **{("xarray.core.duck_array_ops", name): f"{_FLOATS}.{name}(..)" for name in ("std", "var", "median", "quantile")},
+    ("rolling", "DataArrayRolling"): "x.cengmoat.rolling(..), as in x.cengmoat.rolling(time=7).sum()",
+    ("rolling", "DatasetRolling"): "x.cengmoat.rolling(..) of each array, as in x.cengmoat.rolling(time=7).sum()",
+    ("groupby", "GroupBy"): "x.cengmoat.groupby(..), as in x.cengmoat.groupby(\"time.month\").sum()",
+    ("groupby", "Resample"): "x.cengmoat.resample(..), as in x.cengmoat.resample(time=\"M\").sum()",
+    ("computation", "_calc_idxminmax"): "x.time[x.argmax(\"time\").compute()] for x.idxmax(\"time\"), and argmin for idxmin",
+    ("missing", "ffill"): f"{_FLOATS}.ffill(..)",
+    ("missing", "bfill"): f"{_FLOATS}.bfill(..)",
+    ("missing", "interp"): f"{_FLOATS}.interp(..)",
+    ("parallel", "map_blocks"): f"{_FLOATS}.map_blocks(f), or x.data.to_dask().map_blocks(f) over NumPy's arrays",
+    ("duck_array_ops", "where_method"): "x.where(cond, fill), as in x.where(x > 3, 0)",
+    ("variable", "_shift_one_dim"): "x.shift(.., fill_value=0)",
+    ("variable", "pad"): "x.pad(.., constant_values=0)",
+    ("alignment", "reindex_variables"): "x.isel(..) by slices, so that no place is missing",
+    **{("duck_array_ops", name): f"{_FLOATS}.{name}(..)" for name in ("std", "var", "median", "quantile")},
 }
 _LISTS = ("DataArrayRolling", "DatasetRolling", "GroupBy", "Resample")
 
 
 def _of_frame(module: str, frame: Any) -> str:
     found = LINES.get((module, frame.f_code.co_name), "")
-    if not found and module in ("xarray.core.rolling", "xarray.core.groupby"):
+    if not found and module in ("rolling", "groupby"):
         kinds = [kind.__name__ for kind in type(frame.f_locals.get("self")).__mro__]
         # (a resample is a groupby too)
         found = next((LINES[module, name] for name in reversed(_LISTS) if name in kinds and (module, name) in LINES), "")
     # (duck_array_ops makes its functions by one, whose name each has)
-    if not found and module == "xarray.core.duck_array_ops" and frame.f_code.co_name == "f":
+    if not found and module == "duck_array_ops" and frame.f_code.co_name == "f":
         found = LINES.get((module, str(frame.f_locals.get("name", ""))), "")
     return found
 
@@ -49,7 +49,7 @@ def line_of_caller() -> str:
             break
         module = frame.f_globals.get("__name__", "")
         if module.startswith("xarray."):
-            found = _of_frame(module, frame) or found
+            found = _of_frame(module.rpartition(".")[2], frame) or found
         frame = frame.f_back  # type: ignore[assignment]
     return found
 

@@ -226,19 +226,31 @@ def _said(text: str) -> str:
     return "".join(it if it.isprintable() else ascii(it)[1:-1] for it in text)
 
 
-def holders(folder: str, name: str) -> list[int]:
-    """Return the processes of this machine, but for this one, that have a lock's file open, as far as the system shows it."""
-    found = []
+def _holds(number: int, folder: str, name: str, its: os.stat_result) -> Optional[bool]:
+    """Return whether a process of this machine has a lock's file open and locked, or None where the system doesn't show it."""
+    try:
+        for at in os.listdir(f"/proc/{number}/fd"):
+            with contextlib.suppress(FileNotFoundError):
+                path = f"/proc/{number}/fd/{at}"
+                if os.readlink(path).endswith(f"/{_key(name)}") and os.path.samestat(os.stat(path), its):
+                    with open(f"/proc/{number}/fdinfo/{at}", encoding="ascii", errors="replace") as file:
+                        if "FLOCK" in file.read(MOST_CONTENT):
+                            return True
+    except FileNotFoundError:
+        return False
+    except OSError:
+        return None
+    return False
+
+
+def _worker(folder: str, name: str, pid: int) -> int:
+    """Return the process that holds a lock: the one that its file names, or another one that has the same open file, where that has ended."""
     with contextlib.suppress(OSError), _reading(folder, name) as descriptor:
         its = os.fstat(descriptor)
-        for number in sorted(map(int, filter(str.isdigit, os.listdir("/proc")))):
-            with contextlib.suppress(OSError):
-                for at in os.listdir(f"/proc/{number}/fd") if number != os.getpid() else ():
-                    path = f"/proc/{number}/fd/{at}"
-                    if os.readlink(path).endswith(f"/{_key(name)}") and os.path.samestat(os.stat(path), its):
-                        found.append(number)
-                        break
-    return found
+        if _holds(pid, folder, name, its) is False:
+            others = sorted(int(number) for number in os.listdir("/proc") if number.isdigit() and int(number) != os.getpid())
+            return next((number for number in others if _holds(number, folder, name, its)), pid)
+    return pid
 
 
 def _refusal(folder: str, name: str) -> Locked:
@@ -249,14 +261,12 @@ def _refusal(folder: str, name: str) -> Locked:
     if not held:
         return Locked(f"{name} is being computed or stored by another process: wait until it has ended")
     pid, host, since = held["pid"], held["host"], held["since"]
-    is_here = host == socket.gethostname()
-    far = "" if is_here else f" on {_said(host)}"
-    if is_here and pid != os.getpid():
-        # (who took it may have ended, or couldn't write that it did, and another process may work with the same open file)
-        workers = holders(folder, name)
-        if workers and pid not in workers:
-            return Locked(f"{name} is being computed or stored by {_said(f'process {workers[0]}')}: wait until it has ended, or end it",
-                          pid=workers[0], host=host)
+    if host == socket.gethostname() and pid != os.getpid():
+        # (who took it may have ended, or couldn't write that it did, and another process works with the same open file)
+        worker = _worker(folder, name, pid)
+        if worker != pid:
+            return Locked(f"{name} is being computed or stored by process {worker}: wait until it has ended, or end it", pid=worker, host=host)
+    far = "" if host == socket.gethostname() else f" on {_said(host)}"
     where = "this process, in another thread" if pid == os.getpid() else _said(f"process {pid}") + far
     return Locked(f"{name} is being computed or stored by {where}, since {_said(since)}: wait until it has ended", pid=pid, host=host, since=since)
 

@@ -77,7 +77,7 @@ class Refused:
 
     def map_blocks(self, *args: Any, **options: Any) -> NoReturn:
         """Refuse, by NotImplementedError, a function of the chunks, since it would run outside of the program."""
-        line = line_of_caller() or LINES["xarray.core.parallel", "map_blocks"]
+        line = line_of_caller() or LINES["parallel", "map_blocks"]
         raise NotImplementedError(f"there is no map_blocks of lazy arrays. Nothing was computed. Write {line}")
 
     def __setitem__(self, key: Any, value: Any) -> NoReturn:

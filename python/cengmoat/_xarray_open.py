@@ -1,8 +1,10 @@
 """A folder of arrays as a Dataset of xarray: lazy arrays, with their coordinates in memory."""
 from __future__ import annotations
 
+import contextlib
 import importlib
 import os
+import warnings
 from typing import Any, Iterable, Mapping, Optional, Union
 
 import numpy as np
@@ -47,6 +49,12 @@ def _by_zarr(folder: str, name: str) -> NDArray:
         raise StoreFailed(f"the coordinate {name} of {folder} isn't read by zarr-python: {type(error).__name__}: {error}", key=name) from None
 
 
+def _outline(folder: str, name: str) -> Optional[Outline]:
+    with contextlib.suppress(CengmoatError):
+        return outline_of(folder, name)
+    return None
+
+
 def _coordinate(store: Store, name: str, outline: Outline) -> Any:
     """Return a coordinate, which is read at once, and times decoded."""
     try:
@@ -82,8 +90,9 @@ def _check_sizes(store: Store, variables: Mapping[str, Any]) -> None:
 def open_dataset(folder: Union[str, os.PathLike[str], Store], names: Optional[Iterable[str]] = None, **options: Any) -> Any:
     """Return the arrays of a folder as a Dataset of lazy arrays, with their coordinates.
 
-    Packed numbers are as they are stored. Coordinates are read at once, and times are decoded. Arrays that can't be read, as compressed
-    ones, aren't in it, unless they are coordinates; `Store.unread` says why. An axis without a name is called as its array.
+    Packed numbers are as they are stored. Coordinates are read at once, and times are decoded; one that can't be read is left out with a
+    warning. Arrays that can't be read, as compressed ones, aren't in it, unless they are coordinates; `Store.unread` says why. An axis
+    without a name is called as its array.
 
     Parameters
     ----------
@@ -98,15 +107,13 @@ def open_dataset(folder: Union[str, os.PathLike[str], Store], names: Optional[It
     ------
     NoArray, BadMetadata, Unfinished
         Where an array that is named can't be read.
-    StoreFailed
-        Where a coordinate can't be read.
     ValueError
         Where one axis has several sizes.
     """
     store = folder if isinstance(folder, Store) else Store(folder, **options)
     if isinstance(names, str):
         raise TypeError(f"names is a list of names, as [{names!r}]")
-    outlines = {name: its for name in store.names() if (its := outline_of(store.folder, name)) is not None}
+    outlines = {name: its for name in store.names() if (its := _outline(store.folder, name)) is not None}
     attributes = _group_attributes(store.folder)
     known = _coordinate_names(outlines, attributes)
     arrays = dict(store.items()) if names is None else {name: store[name] for name in names}
@@ -117,7 +124,12 @@ def open_dataset(folder: Union[str, os.PathLike[str], Store], names: Optional[It
             variables[name] = _variable(dims, array, {key: value for key, value in array.attrs.items() if key != "coordinates"})
     used = {dim for its in variables.values() for dim in its.dims}
     wanted = [name for name in sorted(known) if names is None or name in arrays or _belongs(outlines[name], used)]
-    coordinates = {name: _coordinate(store, name, outlines[name]) for name in wanted}
+    coordinates: dict[str, Any] = {}
+    for name in wanted:
+        try:
+            coordinates[name] = _coordinate(store, name, outlines[name])
+        except CengmoatError as error:
+            warnings.warn(f"a coordinate is left out: {error}", stacklevel=2)
     _check_sizes(store, {**coordinates, **variables})
     found = xarray.Dataset(variables, coords=coordinates)
     found.attrs = {name: value for name, value in attributes.items() if name != "coordinates"}

@@ -181,7 +181,7 @@ def write_array_of(array: Any, path: Path, name: Optional[str], zarr_format: Opt
     its = array.name if name is None else name
     if its is None:
         raise ValueError(f"the array has no name: say one, as in x.cengmoat.to_zarr({os.fspath(path)!r}, name=\"y\")")
-    if its in array.coords and array.coords[its].dims != array.dims:
+    if its in array.coords:
         raise ValueError(f"{its} is the name of a coordinate of the array: say another one, as in x.cengmoat.to_zarr(.., name=\"y\")")
     dataset = array.rename(its).to_dataset()
     write_dataset(dataset, path, zarr_format, progress, f"x.cengmoat.to_zarr({os.fspath(path)!r})")

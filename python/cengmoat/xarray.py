@@ -93,6 +93,14 @@ class Accessor:
         """
         return decoded(self._lazy("decode", "xarray.decode_cf decodes others"))
 
+    def is_missing(self) -> Any:
+        """Return whether each element stands for nothing; see `Array.is_missing`."""
+        return xarray.DataArray(self.array.data.is_missing(), self.array.coords, self.array.dims, self.array.name, {})
+
+    def fill_missing(self, value: int) -> Any:
+        """Return the array with a number in place of what is missing; see `Array.fill_missing`."""
+        return self.array.copy(data=self.array.data.fill_missing(value))
+
     def to_zarr(self, path: Path, name: Optional[str] = None, *, zarr_format: Optional[int] = None, progress: Optional[bool] = None) -> None:
         """Compute the array by one run and write it to a folder with its coordinates, so that `xarray.open_zarr(path)` opens it.
 

@@ -136,6 +136,23 @@ class Datasets(WithProgram):
                          (FILL, FILL, ["time", "place"], [{"name": "bytes", "configuration": {"endian": "little"}}]))
         self.assertEqual((self.json("out3/zarr.json")["node_type"], self.json("out3/place/zarr.json")["data_type"]), ("group", "string"))
 
+    def test_missing_values_of_an_array_of_xarray(self) -> None:
+        ds = self.open(self.written())
+        mask, filled = ds.t2m.cengmoat.is_missing(), ds.t2m.cengmoat.fill_missing(0)
+        self.same(mask.data.compute(), self.data == FILL)
+        self.same(filled.data.compute(), np.where(self.data == FILL, 0, self.data).astype("int16"))
+        self.assertEqual((mask.attrs, sorted(mask.coords), filled.attrs), ({}, sorted(ds.coords), ds.t2m.attrs))
+
+    def test_a_coordinate_that_cannot_be_read(self) -> None:
+        weather = self.written()
+        with open(os.path.join(weather, "height", ".zarray"), encoding="utf-8") as file:
+            members = json.load(file)
+        with open(os.path.join(weather, "height", ".zarray"), "w", encoding="utf-8") as file:
+            json.dump({**members, "compressor": {"id": "unheard"}}, file)
+        with self.assertWarnsRegex(UserWarning, "left out.*height"):
+            ds = self.open(weather)
+        self.assertEqual(sorted(ds.coords), ["place", "run", "time"])
+
     def json(self, key: str) -> dict[str, Any]:
         with open(os.path.join(self.folder, key), encoding="utf-8") as file:
             return json.load(file)
