@@ -4,7 +4,8 @@ from __future__ import annotations
 import sys
 from typing import Any
 
-_GROUPS = "xarray.core.groupby"
+# (xarray has moved modules at times)
+_GROUPS = ("xarray.core.groupby", "xarray.computation.groupby")
 # How many calls may lie between them and a part of an array.
 _DEPTH = 30
 # What takes the place of x.groupby("time.month") - clim, as long as there is no taking by labels.
@@ -17,14 +18,14 @@ def _is_resample(owner: Any) -> bool:
 
 def refuse_groups() -> None:
     """Refuse a part that xarray's own groupby takes, by NotImplementedError; its resample takes slices, and stays."""
-    if _GROUPS not in sys.modules:
+    if not any(module in sys.modules for module in _GROUPS):
         return
     frame: Any = sys._getframe(2)
     is_group, is_operator = False, False
     for _ in range(_DEPTH):
         if frame is None:
             break
-        if frame.f_globals.get("__name__") == _GROUPS:
+        if frame.f_globals.get("__name__") in _GROUPS:
             if _is_resample(frame.f_locals.get("self")):
                 return
             is_group, is_operator = True, is_operator or frame.f_code.co_name == "_binary_op"

@@ -60,9 +60,9 @@ def _coordinate(store: Store, name: str, outline: Outline) -> Any:
     try:
         values: Optional[NDArray] = store.read(name)
     except CengmoatError:
-        values = read_plain(store.folder, name, outline)
+        values = read_plain(store.home(name), name, outline)
     if values is None:
-        values = _by_zarr(store.folder, name)
+        values = _by_zarr(store.home(name), name)
     attributes = {key: value for key, value in fill_of(outline.attributes, values.dtype).items() if key != "coordinates"}
     dims = outline.dims or tuple(f"{name}_dim_{at}" for at in range(values.ndim))
     return _conventions.decode_cf_variable(name, _variable(dims, values, attributes))
@@ -113,7 +113,7 @@ def open_dataset(folder: Union[str, os.PathLike[str], Store], names: Optional[It
     store = folder if isinstance(folder, Store) else Store(folder, **options)
     if isinstance(names, str):
         raise TypeError(f"names is a list of names, as [{names!r}]")
-    outlines = {name: its for name in store.names() if (its := _outline(store.folder, name)) is not None}
+    outlines = {name: its for name in store.names() if (its := _outline(store.home(name), name)) is not None}
     attributes = _group_attributes(store.folder)
     known = _coordinate_names(outlines, attributes)
     arrays = dict(store.items()) if names is None else {name: store[name] for name in names}
