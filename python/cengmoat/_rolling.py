@@ -46,28 +46,31 @@ def _along(x: Array, axis: int, start: int, stop: int) -> Array:
     return found.reshape(tuple(stop - start if at == axis else 1 for at in range(x.ndim)))
 
 
-def rolling_sum(x: Array, axis: int, window: int, least: int, fill_value: int) -> Array:
-    """Return the sum of each place and the `window` - 1 before it; of the first ones, of those that are there, if they are `least` or more."""
+def _sums(x: Array, axis: int, window: int, least: int, divided: Callable[[Array, int, int], Array], fill_value: int) -> Array:
+    """Return the sums of windows, each part as `divided` gives it: it is told the places of the first window of a part, and of the last."""
     count = x.shape[axis]
     sums = _wide(x.cumsum(axis))
     empty, whole = min(least - 1, count), min(window, count)
-    parts = [_filled(sums, axis, empty, fill_value), _cut(sums, axis, empty, whole)]
+    parts = [_filled(sums, axis, empty, fill_value)]
+    if whole > empty:
+        parts.append(divided(_cut(sums, axis, empty, whole), empty + 1, whole))
     if count > window:
-        parts.append(_cut(sums, axis, window, count) - _cut(sums, axis, 0, count - window))
+        parts.append(divided(_cut(sums, axis, window, count) - _cut(sums, axis, 0, count - window), window, window))
     return _joined(parts, axis)
+
+
+def rolling_sum(x: Array, axis: int, window: int, least: int, fill_value: int) -> Array:
+    """Return the sum of each place and the `window` - 1 before it; of the first ones, of those that are there, if they are `least` or more."""
+    return _sums(x, axis, window, least, lambda sums, first, last: sums, fill_value)
 
 
 def rolling_mean(x: Array, axis: int, window: int, least: int, fill_value: int, scale: int = 1) -> Array:
     """Return the sums times `scale` by the count of their places, rounded down."""
-    sums = rolling_sum(x, axis, window, least, 0)
-    if scale != 1:
-        sums = sums * scale
-    count = x.shape[axis]
-    empty, whole = min(least - 1, count), min(window - 1, count)
-    parts = [_filled(sums, axis, empty, fill_value)]
-    if whole > empty:
-        parts.append(_cut(sums, axis, empty, whole) // _along(sums, axis, empty + 1, whole + 1))
-    return _joined([*parts, _cut(sums, axis, whole, count) // window], axis)
+    def divided(sums: Array, first: int, last: int) -> Array:
+        scaled = sums if scale == 1 else sums * scale
+        return scaled // (last if first == last else _along(sums, axis, first, last + 1))
+
+    return _sums(x, axis, window, least, divided, fill_value)
 
 
 def _doubled(x: Array, axis: int, window: int, extreme: Callable[[Array, Array], Array]) -> Array:

@@ -1,6 +1,7 @@
 """Folders that may only be read, with a work folder beside them, and expressions over several folders."""
 from __future__ import annotations
 
+import importlib.util
 import os
 import pickle
 import subprocess
@@ -177,6 +178,19 @@ class Runs(WithProgram):
                 call()
             self.assertIn("nothing is stored there", str(found.exception))
         self.same((here["t"] + far).store("sum").compute(), self.data * 4)
+
+    def test_datasets_over_a_work_folder(self) -> None:
+        if importlib.util.find_spec("xarray") is None:
+            self.skipTest("xarray isn't there")
+        import cengmoat.xarray
+        (self.here["t"] * 2).store("y")
+        found = cengmoat.xarray.open_dataset(self.here)
+        self.assertEqual((sorted(found.data_vars), found["y"].dims), (["t", "y"], ("a", "b")))
+        self.same((found["y"] - found["t"]).data.compute(), self.data)
+        found["y"].cengmoat.to_zarr(os.path.join(self.folder, "written"), zarr_format=3)
+        self.same(cengmoat.Store(os.path.join(self.folder, "written"))["y"].compute(), self.data * 2)
+        self.same((self.here["t"] + 1).store("y", overwrite=True).compute(), self.data + 1)
+        self.assertRaises(ValueError, (self.here["y"] + 1).store, "y", overwrite=True)
 
     def test_a_replaced_array_is_told(self) -> None:
         t = self.here["t"]
