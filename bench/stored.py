@@ -9,6 +9,9 @@ import tempfile
 import time
 
 HERE = os.path.dirname(os.path.abspath(__file__))
+sys.path.append(os.path.join(HERE, "..", "tools"))
+from zarr_store import Layout  # zarr_store.py, in tools
+
 # As ./cubed has it: large buffers lie in huge pages where the system gives them on demand, as NumPy's do.
 os.environ.setdefault("GLIBC_TUNABLES", "glibc.malloc.hugetlb=1")
 GNU_TIME = "/usr/bin/time"
@@ -76,12 +79,7 @@ def tell(name, runs, aims=None):
 
 def metadata(dtype, shape, chunk, separator="/"):
     """The text of an array's metadata of version 3: little-endian, uncompressed, 0 where a chunk is absent."""
-    codec = {"name": "bytes"} if dtype == "bool" else {"name": "bytes", "configuration": {"endian": "little"}}
-    return json.dumps({
-        "zarr_format": 3, "node_type": "array", "data_type": dtype, "shape": shape, "fill_value": False if dtype == "bool" else 0,
-        "chunk_grid": {"name": "regular", "configuration": {"chunk_shape": chunk}},
-        "chunk_key_encoding": {"name": "default", "configuration": {"separator": separator}}, "codecs": [codec],
-    }, sort_keys=True, separators=(",", ":"))
+    return Layout(dtype, shape, chunk, separator=separator).text()
 
 
 def put(path, data):

@@ -12,6 +12,8 @@ usage: tools/call.py PROGRAM DIR COMMAND WORDS..
 
 The exit status is the program's, and a signal that ends the program ends this too.
 """
+from __future__ import annotations
+
 import contextlib
 import ctypes
 import os
@@ -22,14 +24,16 @@ import subprocess
 import sys
 import threading
 import time
+from typing import Any, Optional, Sequence
 
 import fresh
 import locks
-import texts
-from options import OPTIONS
-from said import usage_if_asked
+import stdin_text
+from options import plan_numbers
+from said import Failed, shown, usage_if_asked
 from words import Wrong, read, told_of, without_progress
-from zarr_store import NAME, Failed, Stored, shown
+from stdin_text import NAME
+from zarr_store import Stored
 
 MOST_LINE = 1 << 16
 ENDING = (signal.SIGINT, signal.SIGTERM, signal.SIGHUP)
@@ -48,61 +52,60 @@ class Call:
     of the array that it makes.
     """
 
-    def __init__(self, program, words):
+    def __init__(self, program: str, words: list[str]) -> None:
         self.folder, self.command = words[0], words[1] if len(words) > 1 else ""
         self.words = [program, *words[:2], *without_progress(words[2:])]
+        self.options: dict[str, int] = {}
+        self.wrong: Optional[Wrong] = None
         try:
             self.options, _ = read(*words)
         except Wrong as wrong:
-            self.options, self.wrong = {}, wrong
-        else:
-            self.wrong = None
-        takes_text = self.command in texts.TAKES_TEXT and not self.wrong
-        self.text = texts.taken() if takes_text else None
+            self.wrong = wrong
+        takes_text = self.command in stdin_text.TAKES_TEXT and not self.wrong
+        self.text = stdin_text.taken() if takes_text else None
 
-    def locks(self):
+    def locks(self) -> list[tuple[str, bool]]:
         """The names whose locks it holds, and whether it holds each alone."""
         if self.wrong:
             return []
         if os.path.isdir(self.folder):
-            return texts.locks_of(self.command, self.text)
+            return stdin_text.locks_of(self.command, self.text)
         return fresh.locks_of(self.words[1:], self.text)
 
     @property
-    def name(self):
+    def name(self) -> Optional[str]:
         """The name of the array that the call makes, or nothing where it makes none."""
-        found = texts.name_of_text(self.text) if self.text else None
+        found = stdin_text.name_of_text(self.text) if self.text else None
         name = "demo_y" if self.command == "demo" else found
         return name if isinstance(name, str) and NAME.match(name) else None
 
-    def tasks(self):
+    def tasks(self) -> Any:
         """The tasks of the plan of the text, or nothing."""
         import tasks
-        found = [self.options.get(name, OPTIONS[name].default)
-                 for name in ("allowed-mem", "reserved-mem", "split-every", "fusion")]
+        found = plan_numbers(self.options)
         return tasks.of_text(self.folder, self.text, *found) if self.text else None
 
 
 class Line:
     """What the program writes on standard error, which is passed on as it comes."""
 
-    def __init__(self):
+    def __init__(self) -> None:
         self.before = b""
         self.read_end, self.write_end = os.pipe()
         self.told, self.thread = b"", threading.Thread(target=self.follow, daemon=True)
 
-    def begin(self):
+    def begin(self) -> None:
         os.close(self.write_end)
         self.thread.start()
 
-    def follow(self):
+    def follow(self) -> None:
         while block := os.read(self.read_end, MOST_LINE):
             self.told = (self.told + block)[:MOST_LINE]
             sys.stderr.buffer.write(self.before + block)
             sys.stderr.flush()
 
 
-def as_without_python(mask):
+def as_without_python(mask: set[signal.Signals]) -> None:
     """Gives the program what a shell gives it: the end of this script ends it too, the signals of a mask wait, a closed pipe is the
     system's, and a file that is too large is a fault of a write."""
     with contextlib.suppress(OSError, AttributeError):
@@ -115,10 +118,10 @@ def as_without_python(mask):
 class Progress:
     """A line on the terminal with the tasks that are done of all."""
 
-    def __init__(self, tasks):
+    def __init__(self, tasks: Any) -> None:
         self.tasks, self.wait = tasks, LEAST_WAIT
 
-    def show(self):
+    def show(self) -> None:
         began = time.monotonic()
         done = self.tasks.done()
         at = next((it for it, count in zip(self.tasks.operations, done) if count < it.tasks),
@@ -127,16 +130,17 @@ class Progress:
         self.wait = max(LEAST_WAIT, (time.monotonic() - began) / MOST_PART)
 
     @staticmethod
-    def line(text):
+    def line(text: str) -> None:
         sys.stderr.write(NO_LINE.decode() + text)
         sys.stderr.flush()
 
 
-def run(call, held=()):
+def run(call: Call, held: Sequence[int] = ()) -> tuple[int, str]:
     """Runs the program to its end, passes its signals on, and returns its status and its line on
     standard error.
     """
-    progress, said, child = None, Line(), None
+    progress, said = None, Line()
+    child: Optional[subprocess.Popen[bytes]] = None
     if call.options.get("progress") and sys.stderr.isatty():
         tasks = call.tasks()
         progress = Progress(tasks) if tasks and tasks.count else None
@@ -144,7 +148,7 @@ def run(call, held=()):
     for lock in held:
         os.set_inheritable(lock, True)
 
-    def pass_on(number, _):
+    def pass_on(number: int, _: object) -> None:
         if child is not None:
             child.send_signal(number)
 
@@ -164,13 +168,14 @@ def run(call, held=()):
     return child.returncode, said.told.decode("utf-8", "replace")
 
 
-def wait_for(child, progress, said):
+def wait_for(child: subprocess.Popen[bytes], progress: Optional[Progress], said: Line) -> None:
     """Waits for the end of the program and of what it says, and shows meanwhile how far it is."""
     while True:
         try:
             child.wait(progress.wait if progress else None)
             break
         except subprocess.TimeoutExpired:
+            assert progress is not None
             progress.show()
     if progress and child.returncode == 0:
         progress.show()
@@ -182,11 +187,11 @@ def wait_for(child, progress, said):
 
 # What is found
 
-def tell(text):
+def tell(text: object) -> None:
     print(f"cubed: {text}", file=sys.stderr)
 
 
-def tell_stopped(call):
+def tell_stopped(call: Call) -> None:
     """What a call that was broken off has stored, and how one goes on."""
     import tasks
     name = call.name
@@ -217,13 +222,13 @@ def tell_stopped(call):
     return tell(f"broken off; {done}: {how}")
 
 
-def rights_text(path):
+def rights_text(path: str) -> str:
     """Who may do what with a file or a folder."""
     found = os.stat(path)
     return f"it belongs to user {found.st_uid} and group {found.st_gid}, with the rights {stat.filemode(found.st_mode)}, and this is user {os.geteuid()}"
 
 
-def find_folder(path):
+def find_folder(path: str) -> str:
     """The nearest thing on the way to a path that is there, and what hinders one on the way, if
     anything.
     """
@@ -232,7 +237,7 @@ def find_folder(path):
     return path or "."
 
 
-def tell_found(path):
+def tell_found(path: str) -> None:
     """What is found where a file can't be read or written: the kind, the rights, the space and the
     files that are left.
     """
@@ -253,7 +258,7 @@ def tell_found(path):
     tell_space(home)
 
 
-def tell_space(home):
+def tell_space(home: str) -> None:
     """The space and the count of files that are left, and a limit on the size of files."""
     with contextlib.suppress(OSError):
         found = os.statvfs(home)
@@ -268,7 +273,7 @@ def tell_space(home):
         tell(f"a file may have {limit} bytes at most (ulimit -f)")
 
 
-def path_of_fault(call, fields):
+def path_of_fault(call: Call, fields: dict[str, str]) -> str:
     """The path that an answer names: its key, or the folder in which its task stores."""
     if "key" in fields:
         return os.path.join(call.folder, fields["key"])
@@ -278,7 +283,7 @@ def path_of_fault(call, fields):
     return os.path.join(call.folder, call.name or "")
 
 
-def tell_more(call, status, line):
+def tell_more(call: Call, status: int, line: str) -> None:
     """What is found after a status, on a terminal."""
     if status == 2:
         wrong = told_of(call.words[1:])
@@ -294,7 +299,7 @@ def tell_more(call, status, line):
         tell_found(path_of_fault(call, dict(word.partition("=")[::2] for word in line.split())))
 
 
-def main(program, *words):
+def main(program: str, *words: str) -> int:
     call = Call(program, list(words))
     if call.wrong and "progress" in call.wrong.told:
         print(f"error 2 code={call.wrong.code}\ncubed: {call.wrong.told}", file=sys.stderr)

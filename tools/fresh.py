@@ -8,9 +8,11 @@ import contextlib
 import json
 from typing import Optional
 
-import texts
+import stdin_text
+from options import plan_numbers
 from words import Wrong, read
-from zarr_store import TYPES, Failed, Layout
+from said import Failed
+from zarr_store import TYPES, Layout
 
 
 def is_array(text: bytes) -> bool:
@@ -27,10 +29,7 @@ def is_array(text: bytes) -> bool:
 def is_plan(folder: str, text: bytes, options: dict[str, int]) -> bool:
     """Whether a text has a plan over an empty folder with these options."""
     import tasks
-    from options import OPTIONS
-    numbers = [options.get(name, OPTIONS[name].default)
-               for name in ("allowed-mem", "reserved-mem", "split-every", "fusion")]
-    return tasks.of_text(folder, text, *numbers) is not None
+    return tasks.of_text(folder, text, *plan_numbers(options)) is not None
 
 
 def locks_of(words: list[str], text: Optional[bytes]) -> list[tuple[str, bool]]:
@@ -42,5 +41,5 @@ def locks_of(words: list[str], text: Optional[bytes]) -> list[tuple[str, bool]]:
         return []
     if command == "demo" or (command == "load" and text and is_array(text)) \
             or (command in ("run", "begin") and text and is_plan(words[0], text, options)):
-        return texts.locks_of(command, text)
+        return stdin_text.locks_of(command, text)
     return []

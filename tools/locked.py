@@ -11,7 +11,7 @@ import sys
 
 sys.path.insert(0, os.path.dirname(os.path.realpath(__file__)))
 import locks  # locks.py, in this folder
-import texts
+import stdin_text
 from said import Failed, usage_if_asked
 
 
@@ -21,9 +21,9 @@ def main(program: str, *words: str) -> int:
     if signal.getsignal(signal.SIGINT) is not signal.SIG_IGN:
         signal.signal(signal.SIGINT, signal.SIG_DFL)
     folder, command = words[0], words[1]
-    text = texts.taken() if command in texts.TAKES_TEXT else None
+    text = stdin_text.taken() if command in stdin_text.TAKES_TEXT else None
     if os.path.isdir(folder):
-        names = texts.locks_of(command, text)
+        names = stdin_text.locks_of(command, text)
     else:
         # (nothing is made for what is refused)
         import fresh

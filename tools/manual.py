@@ -10,6 +10,7 @@ from __future__ import annotations
 import argparse
 import os
 import sys
+from typing import Sequence
 
 from options import COMMANDS, FLAGS, OPTIONS, OTHERS, Option, form_of, options_of
 
@@ -31,7 +32,7 @@ WORDS = {
 FIRST_WORDS = ("explain", "help", "--help", "--version")
 
 
-def aligned(rows: list[tuple[str, ...]], indent: str = "  ") -> str:
+def aligned(rows: Sequence[tuple[str, ...]], indent: str = "  ") -> str:
     """Rows of cells as lines in columns."""
     widths = [max(len(row[at]) for row in rows) for at in range(len(rows[0]) - 1)]
     return "".join(indent + "  ".join([cell.ljust(width) for cell, width in zip(row, widths)] + [row[-1]]) + "\n"

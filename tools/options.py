@@ -91,6 +91,11 @@ def options_of(command: str) -> dict[str, Option]:
     return {name: option for name, option in OPTIONS.items() if command in option.takers}
 
 
+def plan_numbers(given: dict[str, int]) -> list[int]:
+    """The numbers by which a plan is made: --allowed-mem, --reserved-mem, --split-every and --fusion."""
+    return [given.get(name, OPTIONS[name].default or 0) for name in ("allowed-mem", "reserved-mem", "split-every", "fusion")]
+
+
 def form_of(command: str) -> str:
     """How a command is called, with the options that it must have."""
     it = COMMANDS.get(command) or OTHERS[command]

@@ -6,7 +6,7 @@ KINDS = {"x86-64-v2": "SSE4.2", "x86-64-v3": "AVX2"}
 OF_V3 = {"avx", "avx2", "bmi1", "bmi2", "f16c", "fma", "abm", "movbe", "xsave"}
 
 
-def best():
+def best() -> str:
     """Returns x86-64-v3 where this processor is of that kind, and else x86-64-v2."""
     try:
         with open("/proc/cpuinfo", encoding="utf-8") as file:

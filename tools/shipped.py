@@ -8,7 +8,7 @@ import shutil
 
 TOP = os.path.dirname(os.path.dirname(os.path.realpath(__file__)))
 SHIPPED = {
-    "tools": ("zarr", "zarr_store.py", "folder.py", "tasks.py", "locks.py", "said.py", "texts.py", "fresh.py", "locked.py",
+    "tools": ("zarr", "zarr_store.py", "folder.py", "tasks.py", "locks.py", "said.py", "stdin_text.py", "fresh.py", "locked.py",
               "options.py", "words.py", "call.py", "explain.py"),
     "compare": ("rules.py", "copies.py", "inlined.py", "limits.py", "operators.py", "reductions.py"),
 }

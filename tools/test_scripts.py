@@ -21,6 +21,7 @@ import re
 import runpy
 import shutil
 import sys
+import tempfile
 import time
 import unittest
 import unittest.mock
@@ -444,6 +445,21 @@ class Help(unittest.TestCase):
         # That of the script itself.
         self.assertEqual(told.pop("progress"), (0, 1, 0, ["resume", "run"]))
         self.assertEqual(told, table)
+
+
+class Types(unittest.TestCase):
+    """The types of the scripts that users call, as tools/mypy.ini lists them."""
+
+    @unittest.skipIf(shutil.which("mypy") is None, "mypy isn't there")
+    def test_the_types_are_right(self):
+        with tempfile.TemporaryDirectory() as cache:
+            ended = run("mypy", "--cache-dir", cache, cwd=f"{TOP}/tools", seconds=600)
+        self.assertEqual(ended.returncode, 0, ended.stdout.decode())
+
+    def test_each_script_of_an_archive_is_among_them(self):
+        with open(f"{TOP}/tools/mypy.ini", encoding="utf-8") as file:
+            listed = re.split(r"[,\s]+", file.read().partition("files = ")[2].partition("\n#")[0].strip())
+        self.assertLessEqual(set(shipped.SHIPPED["tools"]), set(listed))
 
 
 class Explain(unittest.TestCase):

@@ -6,13 +6,16 @@ usage: tools/words.py DIR COMMAND WORDS..     prints the answer and what is wron
 
 `--progress N` is the script's own, and the program doesn't get it.
 """
+from __future__ import annotations
+
 import difflib
 import re
 import sys
+from typing import Iterable, Optional
 
 from options import COMMANDS, OPTIONS, OTHERS, options_of
 from said import shown, usage_if_asked
-from texts import NAME
+from stdin_text import NAME
 
 # What stands behind an option's name alone.
 POSITIONAL = {"print": "the name of an array", "demo": "a size from 1 to 2048"}
@@ -27,18 +30,18 @@ SIZE = re.compile(r"([0-9]{1,15})(?:[.]([0-9]{1,6}))? ?([kmgt]i?|)b?\Z", re.IGNO
 class Wrong(Exception):
     """A word isn't accepted: the code of the answer, and what is wrong."""
 
-    def __init__(self, code, told):
+    def __init__(self, code: int, told: str) -> None:
         super().__init__(told)
         self.code, self.told = code, told
 
 
-def near(word, names):
+def near(word: str, names: Iterable[str]) -> str:
     """What to say of the names that a wrong one is near to."""
     found = difflib.get_close_matches(word.lower(), list(names), 3, 0.6) if len(word) < 100 else []
     return f" (near: {', '.join(found)})" if found else ""
 
 
-def bytes_text(text):
+def bytes_text(text: str) -> str:
     """A size such as 64MiB in bytes, or nothing."""
     found = SIZE.match(text)
     if not found or not found[3] and not found[2] and text.isdigit():
@@ -47,12 +50,12 @@ def bytes_text(text):
     return f" ({int(found[1] + digits) * scale // 10**len(digits)} bytes)"
 
 
-def value_of(text):
+def value_of(text: str) -> int:
     """The number that a word of digits is. One that is above every range has fewer digits here."""
     return int(text.lstrip("+0")[:30] or "0")
 
 
-def is_text(word):
+def is_text(word: str) -> bool:
     try:
         word.encode("utf-8")
     except UnicodeEncodeError:
@@ -60,10 +63,11 @@ def is_text(word):
     return True
 
 
-def parts(words):
+def parts(words: list[str]) -> tuple[list[tuple[str, Optional[str]]], list[str]]:
     """The pairs of an option and its value, and the other words, in their order."""
     end = words.index("--") if "--" in words else len(words)
-    given, others, rest = [], [], iter(words[:end])
+    given: list[tuple[str, Optional[str]]] = []
+    others, rest = [], iter(words[:end])
     for word in rest:
         if word == "-" or not word.startswith("-"):
             others.append(word)
@@ -71,13 +75,14 @@ def parts(words):
             raise Wrong(2,
                         f"{shown(word)} isn't an option: an option is written whole, as --workers 4")
         elif "=" in word:
-            given.append(tuple(word[2:].split("=", 1)))
+            name, _, value = word[2:].partition("=")
+            given.append((name, value))
         else:
             given.append((word[2:], next(rest, None)))
     return given, others + words[end + 1:]
 
 
-def number(name, value, least, most):
+def number(name: str, value: Optional[str], least: int, most: int) -> int:
     """The number that an option has."""
     told = f"--{name} takes a whole number from {least} to {most}"
     if value is None:
@@ -89,7 +94,7 @@ def number(name, value, least, most):
     return value_of(value)
 
 
-def options(command, given):
+def options(command: str, given: list[tuple[str, Optional[str]]]) -> dict[str, int]:
     """The numbers of the options of a command, by their names."""
     found = {}
     own = list(options_of(command))
@@ -108,7 +113,7 @@ def options(command, given):
     return found
 
 
-def read(folder, command=None, *words):
+def read(folder: str, command: Optional[str] = None, *words: str) -> tuple[dict[str, int], list[str]]:
     """The options and the other words of a call, or what is wrong with it."""
     if not all(map(is_text, filter(None, (folder, command, *words)))):
         raise Wrong(1 if command is None or not is_text(command) else 2, "a word isn't UTF-8")
@@ -133,12 +138,12 @@ def read(folder, command=None, *words):
     return found, others
 
 
-def number_of_demo(word):
+def number_of_demo(word: str) -> None:
     if not NUMBER.match(word) or not 1 <= value_of(word) <= 2048:
         raise Wrong(2, f"demo wants {POSITIONAL['demo']}, and not {shown(word)!r}")
 
 
-def without_progress(words):
+def without_progress(words: list[str]) -> list[str]:
     """The words without the script's own option."""
     end = words.index("--") if "--" in words else len(words)
     kept, rest = [], iter(words[:end])
@@ -152,7 +157,7 @@ def without_progress(words):
     return kept + words[end:]
 
 
-def told_of(words):
+def told_of(words: list[str]) -> Optional[Wrong]:
     """The code and what is wrong with the words of a call, or nothing."""
     try:
         read(*words[:1] or [""], *words[1:])
@@ -161,7 +166,7 @@ def told_of(words):
     return None
 
 
-def main(words):
+def main(words: list[str]) -> int:
     wrong = told_of(words)
     if wrong:
         print(f"error 2 code={wrong.code}\ncubed: {wrong.told}", file=sys.stderr)
