@@ -24,7 +24,7 @@ import subprocess
 import sys
 import threading
 import time
-from typing import Any, Optional, Sequence
+from typing import Any, Optional, Sequence, Union
 
 import fresh
 import locks
@@ -105,7 +105,7 @@ class Line:
             sys.stderr.flush()
 
 
-def as_without_python(mask: set[signal.Signals]) -> None:
+def as_without_python(mask: set[Union[int, signal.Signals]]) -> None:
     """Gives the program what a shell gives it: the end of this script ends it too, the signals of a mask wait, a closed pipe is the
     system's, and a file that is too large is a fault of a write."""
     with contextlib.suppress(OSError, AttributeError):
