@@ -368,7 +368,7 @@ def compute_node(node: Node, store: Optional[Store], progress: Optional[bool], e
     with _some_store(node, store) as found:
         its = node.stored_as
         if its is not None:
-            with reading("x.compute()", found.folder):
+            with reading("x.compute()", its.folder or found.folder):
                 return read_node(its)
         if explain:
             print(plan_node(node, found.owner))
