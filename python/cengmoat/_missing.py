@@ -48,7 +48,7 @@ def kept_missing(found: Node, sources: Sequence[Node], condition: Optional[Node]
     sources : sequence of Node
         The arrays of whose elements it is made.
     condition : Node, optional
-        By which elements are chosen. Where it compares with the number for what is missing, that is chosen as it says.
+        By which elements are chosen. Where it compares an array with its number for what is missing, that is chosen as it says.
     """
     known = missing_in(found)
     for source in sources:
@@ -59,5 +59,9 @@ def kept_missing(found: Node, sources: Sequence[Node], condition: Optional[Node]
 
 
 def _asks(condition: Node, values: Sequence[int]) -> bool:
-    """Return whether a condition compares with one of these numbers."""
-    return any(it.op in _COMPARISONS and any(not isinstance(arg, (Node, bool)) and arg in values for arg in it.args) for it in in_order(condition))
+    """Return whether a condition compares with one of these numbers an array in which it stands for what is missing."""
+    for it in in_order(condition):
+        asked = [arg for arg in it.args if not isinstance(arg, (Node, bool)) and arg in values] if it.op in _COMPARISONS else []
+        if any(value in missing_in(arg) for value in asked for arg in it.arrays):
+            return True
+    return False

@@ -64,16 +64,23 @@ def function(name: str) -> Optional[Callable[..., NoReturn]]:
     return refused
 
 
+class Points:
+    """Refuses each index, by NotImplementedError."""
+
+    def __getitem__(self, key: Any) -> NoReturn:
+        raise NotImplementedError("the program has no indexing by points. Nothing was computed. Write them one by one, as in"
+                                  " xarray.concat([x.isel(time=i, place=j) for i, j in points], \"point\"), or xp.stack([x[i, j] for i, j in points])")
+
+
 class Refused:
     """The methods that are refused."""
 
     __slots__ = ()
 
     @property
-    def vindex(self) -> NoReturn:
-        """Refuse, by NotImplementedError, places that go together as points, which xarray asks for here."""
-        raise NotImplementedError("the program has no indexing by points. Nothing was computed. Write them one by one, as in"
-                                  " xarray.concat([x.isel(time=i, place=j) for i, j in points], \"point\"), or xp.stack([x[i, j] for i, j in points])")
+    def vindex(self) -> Points:
+        """What refuses places that go together as points, which xarray asks for here."""
+        return Points()
 
     def map_blocks(self, *args: Any, **options: Any) -> NoReturn:
         """Refuse, by NotImplementedError, a function of the chunks, since it would run outside of the program."""

@@ -208,8 +208,9 @@ def _is_left(folder: str, name: str) -> bool:
 def all_names(folder: str, with_left: bool = False) -> list[str]:
     """Return the names that have metadata or the record of a plan; also those of what a stopped write left, where they are asked for."""
     recorded = [name for name in _entries(os.path.join(folder, "_cubed")) if has_record(folder, name)]
-    left = [name for name in _entries(folder) if _is_left(folder, name)] if with_left else []
-    return sorted({*array_names(folder), *recorded, *left})
+    known = {*array_names(folder), *recorded}
+    left = [name for name in _entries(folder) if name not in known and _is_left(folder, name)] if with_left else []
+    return sorted({*known, *left})
 
 
 def _counts(folder: str, name: str) -> tuple[int, int]:

@@ -201,6 +201,8 @@ class Datasets(WithProgram):
         found = self.opened(self.path)
         self.assertEqual((sorted(found.variables), found.t2m.units), (["height", "place", "run", "t2m"], "K"))
         self.assertTrue(np.allclose(found.t2m.values, self.data.max(axis=0) * 0.01 + 273.15))
+        ds.t2m.drop_vars("run").min("time").cengmoat.to_zarr(self.path + "4")
+        self.assertEqual(sorted(self.opened(self.path + "4").coords), ["height", "place"])
         with open(os.path.join(self.path + "3", "t2m", "c", "1", "0"), "rb") as file:
             self.assertEqual(file.read(), (self.data[2:4] > 3).tobytes())
         self.same(self.open(self.path + "3").t2m.data.compute(), self.data > 3)
