@@ -8,24 +8,27 @@ has the time of all that the gate began, as the system counts it. What earlier r
 in the table: from nothing means on a machine, or over a folder of kept work, that has nothing. Edits that another command tries at
 the same time are counted too, so it is to run alone.
 """
+from __future__ import annotations
+
 import collections
 import os
 import re
 import subprocess
 import sys
 import time
+from typing import Any
 from said import usage_if_asked
 
 TOP = os.path.dirname(os.path.dirname(os.path.realpath(__file__)))
 TICKS = os.sysconf("SC_CLK_TCK")
 
 
-def text_of(path):
+def text_of(path: str) -> str:
     with open(path, encoding="utf-8", errors="replace") as file:
         return file.read()
 
 
-def seen(pid):
+def seen(pid: str) -> Any:
     """Returns of a process of the prover when it began, the seconds that it used, its crate and the kind of its work; nothing of another."""
     stat = text_of(f"/proc/{pid}/stat")
     fields = stat[stat.rindex(")") + 2:].split()
@@ -43,7 +46,7 @@ def seen(pid):
     return (pid, fields[19]), (int(fields[11]) + int(fields[12])) / TICKS, crate, kind
 
 
-def look(used):
+def look(used: dict[Any, Any]) -> None:
     """Notes what each process of the prover has used by now."""
     for pid in filter(str.isdigit, os.listdir("/proc")):
         try:
@@ -56,16 +59,17 @@ def look(used):
             used[name] = (seconds, crate, kind)
 
 
-def main():
+def main() -> int:
     if len(sys.argv) > 1:
         print(__doc__, file=sys.stderr)
         return 2
-    used, began = {}, time.monotonic()
+    used: dict[Any, Any] = {}
+    began = time.monotonic()
     gate = subprocess.Popen([f"{TOP}/.ci/run"])
     while gate.poll() is None:
         look(used)
         time.sleep(0.25)
-    sums = collections.defaultdict(collections.Counter)
+    sums: dict[str, collections.Counter[str]] = collections.defaultdict(collections.Counter)
     for seconds, crate, kind in used.values():
         sums[crate][kind] += seconds / 60
         sums["all"][kind] += seconds / 60
