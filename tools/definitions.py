@@ -16,6 +16,8 @@ from typing import NamedTuple
 sys.dont_write_bytecode = True
 import crate_pages
 
+from said import usage_if_asked
+
 TOP = crate_pages.TOP
 CRATES = f"{TOP}/crates"
 PAGE = f"{TOP}/docs/DEFINITIONS.md"
@@ -298,4 +300,5 @@ def main(words):
 
 
 if __name__ == "__main__":
+    usage_if_asked(__doc__)
     sys.exit(main(sys.argv[1:]))

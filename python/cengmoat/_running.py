@@ -7,7 +7,7 @@ import os
 import re
 import tempfile
 from dataclasses import replace
-from typing import TYPE_CHECKING, Any, Iterator, Mapping, Optional
+from typing import TYPE_CHECKING, Any, Callable, Iterator, Mapping, Optional
 
 from ._dtypes import NDArray
 from .errors import BadExpression, NoArray, OtherPlan, OverMemory, Stale, Unfinished, strange
@@ -16,7 +16,7 @@ from ._fit import fitting_chunks
 from ._index import read_index
 from ._labels import labels_of
 from ._left import telling, with_cause
-from ._locks import locked
+from ._locks import Lock, locked
 from ._metadata import MOST_TEXT, Metadata
 from ._names import check_free_name, check_name, is_own, metadata_key, record_key
 from ._nodes import MOST_NODES, Graph, Node, expression
@@ -37,6 +37,8 @@ if TYPE_CHECKING:
 MOST_RECORD = 2**22
 # The `fusion` of each version of a plan that a record may have.
 FUSIONS = {2: 1, 3: 2}
+# The seconds between two looks at a run that shows no bar.
+EACH_LOOK = 0.5
 # The characters of an expression before a bar, about.
 LABEL = 32
 
@@ -169,7 +171,20 @@ def plan_node(node: Node, store: Optional[Store], fusion: Optional[int] = None) 
             return _ask_plan(found, folder, graph, text, fusion)
 
 
-def _run(store: Store, graph: Graph, name: str, lock: int, progress: Optional[bool], command: str = "run",
+def _watch(lock: Lock, folder: str, name: str, bar: Optional[Bar]) -> Optional[Callable[[], float]]:
+    """Return what is called while a run works: others may share the lock once the run's record is there, and the bar is shown."""
+    if not lock.shares:
+        return None if bar is None else bar.watch
+
+    def look() -> float:
+        if has_record(folder, name):
+            lock.share()
+        return EACH_LOOK if bar is None else bar.watch()
+
+    return look
+
+
+def _run(store: Store, graph: Graph, name: str, lock: Lock, progress: Optional[bool], command: str = "run",
          fusion: Optional[int] = None) -> Report:
     """Run an expression whose arrays in memory are stored, and return the report."""
     text = graph.text(name)
@@ -181,7 +196,7 @@ def _run(store: Store, graph: Graph, name: str, lock: int, progress: Optional[bo
             bar = Bar(store.folder, name, _ask_plan(store, store.folder, graph, text, fusion), label)
         try:
             said = call_program(store.words(command, is_temporary=is_own(name), fusion=fusion), text, expression_of=graph.expression,
-                                locks=[lock], watch=None if bar is None else bar.watch)
+                                locks=[lock.descriptor], watch=_watch(lock, store.folder, name, bar))
             is_done = True
         finally:
             if bar is not None:
@@ -191,7 +206,7 @@ def _run(store: Store, graph: Graph, name: str, lock: int, progress: Optional[bo
 
 
 def _run_parts(store: Store, graph: Graph, name: str, progress: Optional[bool], goes_on: bool, executor: Any, paths: Mapping[str, str],
-               fusion: Optional[int]) -> None:
+               fusion: Optional[int], lock: Lock) -> None:
     """Begin a run, or go on with one, and hand its parts to an executor; what is missing then is for `resume`.
 
     Raises
@@ -204,6 +219,7 @@ def _run_parts(store: Store, graph: Graph, name: str, progress: Optional[bool], 
     text = graph.text(name)
     with _advised(store, graph, text), with_cause(store.folder, name, max(node.chunk_bytes for node in graph.nodes), graph.inputs):
         said = call_program(store.words("plan" if goes_on else "begin", fusion=fusion), text, expression_of=graph.expression)
+        lock.share()
         bar, is_done = None, False
         if is_wanted(progress):
             bar = Bar(store.folder, name, read_plan(re.sub(r" reads=[\d,]*$", "", said, flags=re.M), graph, store.allowed_mem, store.reserved_mem), name)
@@ -253,7 +269,10 @@ def store_node(node: Node, name: str, store: Optional[Store], progress: Optional
     fusion = _fusion_of(found, name) if resume else found.fusion
     if explain:
         print(plan_node(node, found, fusion))
-    with telling(f"x.store({name!r})", found.folder, name), locked(found.folder, name) as lock:
+    # (arrays in memory are stored beside it and removed at the end, which is for one call alone)
+    shares = not memory_nodes(graph)
+    shared = shares and resume and has_record(found.folder, name)
+    with telling(f"x.store({name!r})", found.folder, name), locked(found.folder, name, shared=shared, shares=shares) as lock:
         _check_inputs(found, graph)
         goes_on = resume and has_record(found.folder, name)
         if goes_on:
@@ -261,11 +280,12 @@ def store_node(node: Node, name: str, store: Optional[Store], progress: Optional
         if not goes_on or not is_finished(found.folder, name):
             with memory_stored(found.folder, graph, lock):
                 if executor is not None:
-                    _run_parts(found, graph, name, progress, goes_on, executor, paths or {}, fusion)
+                    _run_parts(found, graph, name, progress, goes_on, executor, paths or {}, fusion, lock)
                     goes_on = True
-                _run(found, graph, name, lock.descriptor, progress, "resume" if goes_on else "run", fusion)
+                _run(found, graph, name, lock, progress, "resume" if goes_on else "run", fusion)
         _label(found.folder, name, node)
-        if not keep:
+        # (another one that still computes it reads what lies in between, and removes it at its own end)
+        if not keep and lock.be_alone():
             remove_between(found.folder, name)
     return found.array(name).node
 
@@ -327,7 +347,7 @@ def _computed(store: Store, graph: Graph, name: str, progress: Optional[bool]) -
     sweep(store.folder)
     node = graph.nodes[graph.out]
     with locked(store.folder, name, remove=True) as lock, memory_stored(store.folder, graph, lock, [name]):
-        _run(store, graph, name, lock.descriptor, progress)
+        _run(store, graph, name, lock, progress)
         found = metadata_of(store.folder, name)
         if found != _layout(node):
             raise Unfinished(f"the run has ended, and its result is {said_of(found)}, and not {said_of(_layout(node))}:"
