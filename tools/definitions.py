@@ -17,6 +17,8 @@ sys.dont_write_bytecode = True
 import crate_pages
 from said import usage_if_asked
 
+from said import usage_if_asked
+
 TOP = crate_pages.TOP
 CRATES = f"{TOP}/crates"
 PAGE = f"{TOP}/docs/DEFINITIONS.md"

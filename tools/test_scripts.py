@@ -448,13 +448,14 @@ class Help(unittest.TestCase):
 
 
 class Types(unittest.TestCase):
-    """The types of the scripts that users call, as tools/mypy.ini lists them."""
+    """The types of the scripts that users call, and of what measures share, as mypy.ini of each folder lists them."""
 
     @unittest.skipIf(shutil.which("mypy") is None, "mypy isn't there")
     def test_the_types_are_right(self):
         with tempfile.TemporaryDirectory() as cache:
-            ended = run("mypy", "--cache-dir", cache, cwd=f"{TOP}/tools", seconds=600)
-        self.assertEqual(ended.returncode, 0, ended.stdout.decode())
+            for place in ("tools", "bench"):
+                ended = run("mypy", "--cache-dir", f"{cache}/{place}", cwd=f"{TOP}/{place}", seconds=600)
+                self.assertEqual(ended.returncode, 0, ended.stdout.decode())
 
     def test_each_script_of_an_archive_is_among_them(self):
         with open(f"{TOP}/tools/mypy.ini", encoding="utf-8") as file:
