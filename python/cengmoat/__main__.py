@@ -97,6 +97,11 @@ def _call(words: Sequence[str]) -> int:
     os.execve(program, [program, *words], environment())
 
 
+def _asks_help(words: Sequence[str]) -> bool:
+    """Return whether one of some words asks for help; those behind `--` are the program's."""
+    return any(it in ("-h", "--help") for it in words[:words.index("--") if "--" in words else None])
+
+
 def main(words: Optional[Sequence[str]] = None) -> int:
     """Run a command, and return its exit status.
 
@@ -109,7 +114,7 @@ def main(words: Optional[Sequence[str]] = None) -> int:
     if not given:
         print(USAGE, file=sys.stderr)
         return WRONG
-    if given[0] in ("--help", "-h", "help"):
+    if given[0] == "help" or _asks_help(given):
         print(USAGE)
         return 0
     if given[0] == "--version":

@@ -6,15 +6,16 @@ import io
 import json
 import logging
 import os
+import re
 import subprocess
 import sys
 import unittest
 import xml.etree.ElementTree as ET
 from unittest import mock
 
-from cengmoat.__main__ import main
+from cengmoat.__main__ import USAGE, main
 
-from .support import PROGRAM, PYTHON, Case, WithProgram, cengmoat, np
+from .support import PROGRAM, PYTHON, TOP, Case, WithProgram, cengmoat, np
 
 SVG = "{http://www.w3.org/2000/svg}"
 
@@ -52,6 +53,16 @@ class Command(Case):
             status, said, errors = ran(*words)
             self.assertEqual((status, said), (2, ""), words)
             self.assertTrue(errors, words)
+
+    def test_help(self) -> None:
+        """It is asked for as of the script, and names the same commands."""
+        with open(os.path.join(TOP, "tools", "manual", "help"), encoding="utf-8") as file:
+            script = set(re.findall(r"^  cubed DIR ([a-z]+)", file.read(), re.M)) - {"explain"}
+        told = {it for said in re.findall(r"^  cubed DIR ([a-z|]+)", USAGE, re.M) for it in said.split("|")}
+        self.assertEqual(told, script)
+        for words in (("help",), ("help", "run"), ("-h",), ("DIR", "--help"), ("run", "--help"), ("DIR", "run", "--workers", "2", "-h"), ("DIR", "status", "-h")):
+            self.assertEqual(ran(*words), (0, f"{USAGE}\n", ""), words)
+        self.assertEqual(ran(self.folder, "status", "--", "-h")[0], 2)
 
     def test_the_program_gets_words_and_streams(self) -> None:
         program = self.fake_program("print(words, sys.stdin.read()); sys.stderr.write('said'); sys.exit(14)")
