@@ -13,7 +13,7 @@ import subprocess
 import sys
 import unittest
 
-from test_base import ADDITION, TOP, WithProgram, files_in, put, run, signal, text_of, wait_until
+from test_base import ADDITION, TOP, WithProgram, files_in, put, run, text_of, wait_until
 
 try:
     import cengmoat
@@ -196,9 +196,12 @@ class Locks(WithProgram):
         other.kill()
         other.wait()
         self.refused("load", process=process)
-        process.send_signal(signal.SIGKILL)
-        process.wait()
-        # The program ends with it, and so the lock is free.
+        with open(f"{self.top}/begun.run", encoding="ascii") as file:
+            program = int(file.read())
+        held = [os.readlink(f"/proc/{program}/fd/{number}") for number in os.listdir(f"/proc/{program}/fd")]
+        self.assertIn(f"{self.top}/.locks/y", held)
+        put(f"{self.top}/go")
+        process.wait(60)
         self.program("cat >/dev/null; echo ok")
         self.assertTrue(wait_until(lambda: run(self.script, self.top, "load", text=LOADED).stdout == b"ok\n"))
 

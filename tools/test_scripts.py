@@ -343,6 +343,20 @@ class Archive(InFolder):
             self.assertEqual({row.split(",")[0] for row in rows.split()}, set(wheel.namelist()))
 
 
+    def test_without_a_program_the_version_says_so(self):
+        """pip shows nothing else of a build: its last line is `Successfully installed cengmoat-0.1.0+without.program`."""
+        backend = runpy.run_path(f"{TOP}/python/backend.py")
+        for program, wanted in ((None, r"^cengmoat-[0-9.]+\+without\.program-py3-none-any\.whl$"),
+                                (f"{self.room}/program", r"^cengmoat-[0-9.]+-py3-none-linux_\w+\.whl$")):
+            backend["build_wheel"].__globals__["_program"] = lambda program=program: program
+            name = backend["build_wheel"](self.dist)
+            self.assertRegex(name, wanted)
+            with zipfile.ZipFile(f"{self.dist}/{name}") as wheel:
+                told = wheel.read(next(it for it in wheel.namelist() if it.endswith("METADATA"))).decode()
+                self.assertEqual("cengmoat/cubed" in wheel.namelist(), program is not None)
+            self.assertEqual("+without.program" in told.split("\n")[2], program is None)
+
+
 class Proving(InFolder):
     """What tools/prove.py shows while it proves."""
 
