@@ -102,7 +102,7 @@ class _Lazy:
     def __init__(self, name: str, variable: Any, node: Node) -> None:
         self.name, self.node, self.dims = name, node, tuple(map(str, variable.dims))
         # (xarray drops attributes where it computes, and a lazy array keeps those that are still true; which coordinates it has xarray knows)
-        self.attributes = {**Array(node).attrs, "coordinates": None, **variable.attrs}
+        self.attributes: dict[str, Any] = {**Array(node).attrs, "coordinates": None, **variable.attrs}
         if self.attributes["coordinates"] is None:
             del self.attributes["coordinates"]
 
