@@ -29,19 +29,23 @@ def has(op: str, nodes: Sequence[Node], members: dict[str, object], unknown: boo
         return False
 
 
-def extreme(op: str, args: Sequence[Argument]) -> Node:
-    """Return the node of `maximum` or `minimum` of two arguments, one of which at least is an array. What is missing in one stays missing.
+def plain_extreme(op: str, args: Sequence[Argument]) -> Node:
+    """Return the node of `maximum` or `minimum` of two arguments, one of which at least is an array, of the numbers as they are stored.
 
     Raises
     ------
     TypeError, ValueError
         As ``elementwise``.
     """
-    nodes = [arg for arg in args if isinstance(arg, Node)]
-    if has(op, nodes, {"args": ["x", "x"]}):
-        return kept_missing(build.elementwise(op, args), nodes)
+    if has(op, [arg for arg in args if isinstance(arg, Node)], {"args": ["x", "x"]}):
+        return build.elementwise(op, args)
     holds = build.elementwise("greater_equal" if op == "maximum" else "less_equal", args)
-    return kept_missing(build.where(holds, args[0], args[1]), nodes)
+    return build.where(holds, args[0], args[1])
+
+
+def extreme(op: str, args: Sequence[Argument]) -> Node:
+    """Return the node of ``plain_extreme`` where what is missing in an argument stays missing."""
+    return kept_missing(plain_extreme(op, args), [arg for arg in args if isinstance(arg, Node)])
 
 
 def clip(x: Node, low: Any, high: Any) -> Node:

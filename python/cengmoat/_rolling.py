@@ -5,6 +5,7 @@ from typing import Callable
 
 from ._array import Array
 from ._dtypes import UINT64
+from ._extremes import plain_extreme
 
 MOST_PLACES = 64
 
@@ -94,8 +95,10 @@ def _up_to(x: Array, axis: int, extreme: Callable[[Array, Array], Array]) -> Arr
 
 def rolling_extreme(op: str, x: Array, axis: int, window: int, least: int, fill_value: int) -> Array:
     """Return the greatest (`maximum`) or the least (`minimum`) of each place and the `window` - 1 before it; as `rolling_sum`."""
-    from . import array_api as xp
-    extreme: Callable[[Array, Array], Array] = getattr(xp, op)
+    def extreme(one: Array, other: Array) -> Array:
+        # (stored numbers are folded, those that stand for missing values too)
+        return Array(plain_extreme(op, [one.node, other.node]))
+
     # (the type grows behind the steps, so that these move no more bytes than there are)
     numbers = x.astype("int8") if x.dtype.kind == "b" else x
     count = x.shape[axis]
