@@ -88,5 +88,5 @@ print(type(celsius.data).__module__, f"{float(celsius.mean()):.2f}", celsius.att
 # %%
 import os
 
-print(sorted(os.listdir("archive")), store.names())
-#> ['.locks', 't2m'] ['anomaly', 't2m']
+print(store.names(), os.path.islink("mine/t2m"), "anomaly" in os.listdir("archive"))
+#> ['anomaly', 't2m'] True False

@@ -230,6 +230,30 @@ class Datasets(WithProgram):
                     decoded = xarray.conventions.decode_cf_variable(name, xarray.Variable(ds[name].dims, values, self.json(f"a3/{name}/zarr.json")["attributes"]))
                     self.assertTrue(decoded.equals(ds[name].variable), name)
 
+    def test_stored_arrays_as_they_are(self) -> None:
+        """An absent chunk is written where it has another value than what is missing, and truth values of xarray stay such."""
+        here = self.store()
+        for name, dtype, members, attrs in (("a", "<i2", {"fill_value": 7, "shape": [4], "chunks": [2]}, {}),
+                                            ("b", "|i1", {"fill_value": None, "shape": [2], "chunks": [2]}, {"_ARRAY_DIMENSIONS": ["x"], "dtype": "bool"})):
+            os.makedirs(os.path.join(here.folder, name))
+            for key, told in ((".zarray", {"compressor": None, "dtype": dtype, "filters": None, "order": "C", "zarr_format": 2, **members}), (".zattrs", attrs)):
+                with open(os.path.join(here.folder, name, key), "w", encoding="utf-8") as file:
+                    json.dump(told, file)
+        for name, data in (("a", bytes([1, 0, 2, 0])), ("b", bytes([0, 1]))):
+            with open(os.path.join(here.folder, name, "0"), "wb") as file:
+                file.write(data)
+        ds = xarray.Dataset({"a": ("x", here["a"]), "b": ("y", here["b"])})
+        for form in (2, 3):
+            path = os.path.join(self.folder, f"s{form}")
+            ds.cengmoat.to_zarr(path, zarr_format=form)
+            again = self.open(path)
+            self.same(again.a.data.compute(), np.array([1, 2, 7, 7], "int16"))
+            self.same(again.b.data.compute(), np.array([False, True]))
+        if HAS_ZARR:
+            found = self.opened(os.path.join(self.folder, "s2"))
+            self.same(found.a.values, np.array([1, 2, 7, 7], "int16"))
+            self.same(found.b.values, np.array([False, True]))
+
     def test_a_path_is_new_or_empty(self) -> None:
         t = xarray.DataArray(self.store().save("t", np.arange(6)), dims="x", name="t")
         os.mkdir(self.path)
