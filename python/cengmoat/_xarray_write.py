@@ -102,9 +102,8 @@ class _Lazy:
     def __init__(self, name: str, variable: Any, node: Node) -> None:
         self.name, self.node, self.dims = name, node, tuple(map(str, variable.dims))
         # (xarray drops attributes where it computes, and a lazy array keeps those that are still true; which coordinates it has xarray knows)
-        self.attributes = {**Array(node).attrs, "coordinates": None, **variable.attrs}
-        if self.attributes["coordinates"] is None:
-            del self.attributes["coordinates"]
+        kept = {name: value for name, value in Array(node).attrs.items() if name != "coordinates"}
+        self.attributes: dict[str, Any] = {**kept, **variable.attrs}
 
     def write(self, folder: str, zarr_format: int, progress: Optional[bool], call: str) -> dict[str, Any]:
         """Compute it by one run, write it, and return its metadata."""
