@@ -221,8 +221,8 @@ class Rolling(WithProgram):
         self.computes((lazy > 0).cengmoat.rolling(time=3, min_periods=1).sum().data, (exact > 0).rolling(time=3, min_periods=1).sum().values.astype("int64"))
         self.assertEqual(lazy.cengmoat.rolling(time=7).sum().data.chunksize, (20, 1))
         # stored numbers are folded, those that stand for what is missing too
-        data = np.array([5, -9, 7, 3, -9], "int16")
-        gaps = xarray.DataArray(self.store().save("gaps", data, 2, dims=("time",), attrs={"_FillValue": -9}))
+        numbers = np.array([5, -9, 7, 3, -9], "int16")
+        gaps = xarray.DataArray(self.store().save("gaps", numbers, 2, dims=("time",), attrs={"_FillValue": -9}))
         self.computes(gaps.cengmoat.rolling(time=2, min_periods=1).max().data, np.array([5, 5, 7, 7, 3]))
         self.computes(gaps.cengmoat.rolling(time=2, min_periods=1).sum().data, np.array([5, -4, -2, 10, -6]))
         short = lazy[:3].cengmoat.rolling(time=7, min_periods=2)
