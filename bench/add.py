@@ -11,23 +11,20 @@ disk of the folder for temporary files and, where there is one, in the folder in
 """
 import argparse
 import array
-import json
 import os
 import shutil
 import sys
 import tempfile
 import time
 
+from measured import node, over, turns, words_of
 from small import measure_small
-from stored import PROGRAM, has_numpy, metadata, see_that_it_is_built, store, timed
+from stored import has_numpy, metadata, see_that_it_is_built, store, timed
 
 ELEMENTS, CHUNK = 1 << 24, 1 << 18
 CHUNKS, CHUNK_BYTES = ELEMENTS // CHUNK, 4 * CHUNK
 OUTPUTS = {"cubed": "y", "numpy": "z"}
-EXPRESSION = json.dumps({
-    "nodes": [{"id": "a", "op": "input", "name": "a"}, {"id": "b", "op": "input", "name": "b"},
-              {"id": "s", "op": "add", "args": ["a", "b"]}],
-    "out": "s", "store_as": "y"})
+EXPRESSION = over("ab", node("s", "add", "a", "b"))
 METADATA = metadata("int32", [ELEMENTS], [CHUNK])
 
 
@@ -94,12 +91,11 @@ def measure(program, folder, rounds):
     commands = {"cubed": [program, folder, "run"],
                 "numpy": [sys.executable, os.path.abspath(__file__), "--numpy", folder]}
     peers = list(runs) if has_numpy() else ["cubed"]
-    for number in range(rounds):
-        for peer in peers if number % 2 == 0 else peers[::-1]:
-            for made in (OUTPUTS[peer], "_cubed"):
-                shutil.rmtree(os.path.join(folder, made), ignore_errors=True)
-            os.sync()
-            runs[peer].append(timed(commands[peer], EXPRESSION))
+    for peer in turns(peers, rounds):
+        for made in (OUTPUTS[peer], "_cubed"):
+            shutil.rmtree(os.path.join(folder, made), ignore_errors=True)
+        os.sync()
+        runs[peer].append(timed(commands[peer], EXPRESSION))
     for peer in peers:
         show(peer, runs[peer])
     if len(peers) == 1:
@@ -134,10 +130,7 @@ def measure_in(parent, program, rounds):
 
 
 def main():
-    words = argparse.ArgumentParser(description=__doc__, formatter_class=argparse.RawDescriptionHelpFormatter)
-    words.add_argument("--program", default=PROGRAM, help="the built program")
-    words.add_argument("--dir", action="append", help="a folder on the disk to measure, as often as wanted")
-    words.add_argument("--runs", type=int, default=5, help="how many rounds")
+    words = words_of(__doc__)
     words.add_argument("--numpy", help=argparse.SUPPRESS)
     given = words.parse_args()
     if given.numpy:

@@ -25,7 +25,6 @@ import math
 import os
 import sys
 import tempfile
-import time
 
 sys.dont_write_bytecode = True
 import moves  # moves.py, in this folder

@@ -9,7 +9,6 @@ the plain rules, and compares. NumPy does the same over the same files, once wit
 with its own types. The least of the runs is told, in seconds and in ns for each element of each node (of the product: for each
 multiplication), and the greatest resident memory in bytes for each element of each node, 16 MiB taken off.
 """
-import argparse
 import json
 import os
 import sys
@@ -18,7 +17,8 @@ import time
 
 import numpy
 
-from stored import HERE, PROGRAM, timed  # stored.py, in this folder
+from measured import in_memory, words_of
+from stored import HERE, timed  # stored.py, in this folder
 
 sys.path.append(os.path.join(HERE, "..", "compare"))
 import rules
@@ -98,10 +98,7 @@ def measure(program, parent, rounds, name):
 
 
 def main():
-    words = argparse.ArgumentParser(description=__doc__, formatter_class=argparse.RawDescriptionHelpFormatter)
-    words.add_argument("--program", default=PROGRAM)
-    words.add_argument("--dir", default="/dev/shm" if os.path.isdir("/dev/shm") else tempfile.gettempdir())
-    words.add_argument("--runs", type=int, default=3)
+    words = words_of(__doc__, runs=3, place=in_memory())
     given = words.parse_args()
     for name in CASES:
         measure(os.path.abspath(given.program), given.dir, given.runs, name)

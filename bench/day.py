@@ -27,7 +27,6 @@ have the same tasks, and the aim is that the later one takes no longer.
 """
 import argparse
 import itertools
-import json
 import math
 import os
 import shutil
@@ -37,9 +36,10 @@ import time
 
 sys.dont_write_bytecode = True
 import programs  # programs.py, in this folder
-from stored import (GNU_TIME, PROGRAM, can_import, clear, folders, link_as_version_2, metadata, processor_seconds, put,
+from measured import node, over, words_of
+from stored import (GNU_TIME, can_import, clear, folders, link_as_version_2, metadata, processor_seconds, put,
                     see_that_all_is_the_same, see_that_it_is_built, store_by_dask, timed)
-from workers import Told, node
+from workers import Told
 
 DAYS_A_CHUNK, PLACES, PLACES_A_CHUNK = 365, [180, 360], [180, 90]
 DAYS, CHUNK, CLIMATE_DAYS, SERIES_SIDE = 2920, [DAYS_A_CHUNK, *PLACES_A_CHUNK], 730, 20
@@ -63,8 +63,7 @@ class Work:
 
     def expression(self):
         named = {argument for one in self.nodes for argument in one["args"]}
-        given = [{"id": name, "op": "input", "name": name} for name in self.names if name in named]
-        return json.dumps({"nodes": given + self.nodes, "out": self.nodes[-1]["id"], "store_as": "y"})
+        return over([name for name in self.names if name in named], *self.nodes)
 
 
 def exceedances(dtype, *aims):
@@ -305,15 +304,11 @@ def measure_in(given, parent):
 
 
 def main():
-    words = argparse.ArgumentParser(description=__doc__, formatter_class=argparse.RawDescriptionHelpFormatter)
-    words.add_argument("--program", default=PROGRAM, help="the built program")
-    words.add_argument("--dir", action="append", help="a folder to measure in, as often as wanted")
-    words.add_argument("--runs", type=int, default=5, help="how many rounds")
+    words = words_of(__doc__, python="NumPy, Dask, zarr and xarray")
     words.add_argument("--workers", type=int, default=1, help="how many workers the program has; Dask has one thread")
     words.add_argument("--fusion", type=int, choices=[1, 2], default=1, help="the version of the program's plans")
     words.add_argument("--c", action="store_true", help="measure plain loops in C too")
     words.add_argument("--first", action="store_true", help="measure `--fusion 1` too")
-    words.add_argument("--python", default=sys.executable, help="the Python that has NumPy, Dask, zarr and xarray")
     words.add_argument("--days", type=int, default=DAYS, help="how many days there are; some works are of 2920 alone")
     words.add_argument("--only", nargs="*", help="the works whose names have one of these words")
     words.add_argument("--peer", nargs=2, help=argparse.SUPPRESS)

@@ -16,11 +16,11 @@ import json
 import os
 import shutil
 import subprocess
-import sys
 import tempfile
 import time
 
-from stored import GNU_TIME, PROGRAM, can_import, link_as_version_2, metadata, see_that_it_is_built, store, timed
+from measured import turns, words_of
+from stored import GNU_TIME, can_import, link_as_version_2, metadata, see_that_it_is_built, store, timed
 
 CHUNK = 1 << 20
 CHUNK_BYTES = 4 * CHUNK
@@ -168,15 +168,14 @@ def measure(program, folder, rounds, python):
     peers = [peer for peer, needs in (("numpy", ["numpy"]), ("once", ["numpy"]), ("dask", ["dask.array", "zarr"])) if can_import(python, *needs)]
     commands = {"cubed": [program, folder, "run"], **{peer: [python, os.path.abspath(__file__), "--peer", peer, folder] for peer in peers}}
     runs = {name: [] for name in commands}
-    for number in range(rounds):
-        for name in list(commands)[::1 if number % 2 == 0 else -1]:
-            for made in ("y", "_cubed", "numpy", "numpy_d", "numpy_s", "once", "dask"):
-                if name == "cubed" or made not in ("y", "_cubed"):
-                    shutil.rmtree(os.path.join(folder, made), ignore_errors=True)
-            os.sync()
-            runs[name].append(timed(commands[name], EXPRESSION))
-            if name != "cubed" and os.path.isdir(os.path.join(folder, "y")) and not same(folder, "y", name):
-                raise SystemExit(f"the chunks of {name} and of the program differ")
+    for name in turns(commands, rounds):
+        for made in ("y", "_cubed", "numpy", "numpy_d", "numpy_s", "once", "dask"):
+            if name == "cubed" or made not in ("y", "_cubed"):
+                shutil.rmtree(os.path.join(folder, made), ignore_errors=True)
+        os.sync()
+        runs[name].append(timed(commands[name], EXPRESSION))
+        if name != "cubed" and os.path.isdir(os.path.join(folder, "y")) and not same(folder, "y", name):
+            raise SystemExit(f"the chunks of {name} and of the program differ")
     show("cubed", runs["cubed"])
     best, report, told = min(runs["cubed"])
     print(f"    {report}: {projected(report) / 2**20:.1f} MiB projected" + (f", {int(told[2]) * 1024 / projected(report):.2f} of it resident" if told else ""))
@@ -230,11 +229,7 @@ def measure_in(parent, given):
 
 
 def main():
-    words = argparse.ArgumentParser(description=__doc__, formatter_class=argparse.RawDescriptionHelpFormatter)
-    words.add_argument("--program", default=PROGRAM, help="the built program")
-    words.add_argument("--dir", action="append", help="a folder on the disk to measure, as often as wanted")
-    words.add_argument("--runs", type=int, default=5, help="how many rounds")
-    words.add_argument("--python", default=sys.executable, help="the Python that has NumPy, Dask and zarr")
+    words = words_of(__doc__, python="NumPy, Dask and zarr")
     words.add_argument("--mebibytes", type=int, default=256, help="the size of each of the three arrays")
     words.add_argument("--peer", nargs=2, help=argparse.SUPPRESS)
     given = words.parse_args()

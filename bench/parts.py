@@ -13,7 +13,6 @@
 
 All chunks of the input are hard links to 64 files, so that the input takes 64 MiB.
 """
-import argparse
 import heapq
 import json
 import os
@@ -26,7 +25,8 @@ import tempfile
 import time
 
 sys.dont_write_bytecode = True
-from stored import MIB, PROGRAM, folders, metadata, put, see_that_it_is_built
+from measured import in_memory, words_of
+from stored import MIB, metadata, put, see_that_it_is_built
 
 PLAN_AIM, PART_AIM = 1.15, 0.005
 FILES = 64
@@ -195,10 +195,7 @@ def model(given, own):
 
 
 def main():
-    words = argparse.ArgumentParser(description=__doc__, formatter_class=argparse.RawDescriptionHelpFormatter)
-    words.add_argument("--program", type=os.path.abspath, default=PROGRAM)
-    words.add_argument("--dir", default=folders()[0])
-    words.add_argument("--runs", type=int, default=3)
+    words = words_of(__doc__, runs=3, place=in_memory(), program=os.path.abspath)
     words.add_argument("--processes", type=int, default=4)
     words.add_argument("--tasks", type=int, default=4096)
     words.add_argument("--part", type=int, default=64)

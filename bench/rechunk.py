@@ -15,11 +15,11 @@ import json
 import os
 import shutil
 import subprocess
-import sys
 import tempfile
 import time
 
-from stored import GNU_TIME, MIB, PROGRAM, can_import, link_as_version_2, metadata, put, same_as_version_2, see_that_it_is_built, timed
+from measured import node, over, turns, words_of
+from stored import GNU_TIME, MIB, can_import, link_as_version_2, metadata, put, same_as_version_2, see_that_it_is_built, timed
 
 ALLOWED = (64, 16)
 PEERS = {"dask": "Dask, one thread", "threads": "Dask, its threads"}
@@ -57,8 +57,7 @@ def written(folder, *names):
 
 
 def expression(side, strip):
-    return json.dumps({"nodes": [{"id": "x", "op": "input", "name": "x"}, {"id": "r", "op": "rechunk", "args": ["x"], "chunk": [strip, side]}],
-                       "out": "r", "store_as": "y"})
+    return over("x", node("r", "rechunk", "x", chunk=[strip, side]))
 
 
 class Told:
@@ -87,22 +86,21 @@ def measure(given, folder):
     if can_import(given.python, "dask.array", "zarr"):
         ways.update({PEERS[peer]: [given.python, os.path.abspath(__file__), "--peer", peer, folder, str(strip)] for peer in PEERS})
     told = {way: Told() for way in ways}
-    for number in range(given.runs):
-        for way in list(ways)[::1 if number % 2 == 0 else -1]:
-            is_ours = way.startswith("cubed")
-            made = ("y", "_cubed") if is_ours else ("dask",)
-            for name in made:
-                shutil.rmtree(os.path.join(folder, name), ignore_errors=True)
-            os.sync()
-            run = timed(ways[way], expression(given.side, strip))
-            told[way].runs.append(run)
-            told[way].bytes = written(folder, *made)
-            if is_ours:
-                told[way].report = run[1]
-            else:
-                told[way].inside.append(float(run[1]))
-            if os.path.isdir(os.path.join(folder, "y")) and os.path.isdir(os.path.join(folder, "dask")) and not same_as_version_2(folder, "y", "dask"):
-                raise SystemExit("the chunks of Dask and of the program differ")
+    for way in turns(ways, given.runs):
+        is_ours = way.startswith("cubed")
+        made = ("y", "_cubed") if is_ours else ("dask",)
+        for name in made:
+            shutil.rmtree(os.path.join(folder, name), ignore_errors=True)
+        os.sync()
+        run = timed(ways[way], expression(given.side, strip))
+        told[way].runs.append(run)
+        told[way].bytes = written(folder, *made)
+        if is_ours:
+            told[way].report = run[1]
+        else:
+            told[way].inside.append(float(run[1]))
+        if os.path.isdir(os.path.join(folder, "y")) and os.path.isdir(os.path.join(folder, "dask")) and not same_as_version_2(folder, "y", "dask"):
+            raise SystemExit("the chunks of Dask and of the program differ")
     return told
 
 
@@ -153,11 +151,7 @@ def measure_plans(given):
 
 
 def main():
-    words = argparse.ArgumentParser(description=__doc__, formatter_class=argparse.RawDescriptionHelpFormatter)
-    words.add_argument("--program", default=PROGRAM, help="the built program")
-    words.add_argument("--dir", action="append", help="a folder to measure in, as often as wanted")
-    words.add_argument("--runs", type=int, default=3, help="how many rounds")
-    words.add_argument("--python", default=sys.executable, help="the Python that has NumPy, Dask and zarr")
+    words = words_of(__doc__, runs=3, python="NumPy, Dask and zarr")
     words.add_argument("--side", type=int, default=8192, help="how many rows and columns the array has; less memory is allowed in proportion")
     words.add_argument("--peer", nargs=3, help=argparse.SUPPRESS)
     given = words.parse_args()

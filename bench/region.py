@@ -22,6 +22,7 @@ import time
 
 sys.dont_write_bytecode = True
 import programs  # programs.py, in this folder
+from measured import turns  # measured.py and stored.py
 from stored import has_numpy, timed  # stored.py, in this folder
 
 SIDE, CHUNK_SIDE, LOW, HIGH = 4096, 2048, 1024, 3072
@@ -289,12 +290,11 @@ def measure(program, folder, order, rounds, reads):
                           "--reads", str(reads)]}
     peers = list(runs) if has_numpy() else ["read_region"]
     alone = []
-    for number in range(rounds):
-        for peer in peers if number % 2 == 0 else peers[::-1]:
-            _, said, told = timed(commands[peer])
-            least, checksum, *rest = map(int, said.split())
-            runs[peer].append((least, checksum, told))
-            alone += rest
+    for peer in turns(peers, rounds):
+        _, said, told = timed(commands[peer])
+        least, checksum, *rest = map(int, said.split())
+        runs[peer].append((least, checksum, told))
+        alone += rest
     print(f"  stored {order}-endian:")
     for peer in peers:
         show(peer, runs[peer])

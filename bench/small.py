@@ -9,7 +9,6 @@ In memory, if there is a folder in memory, and else on the disk. With --calls it
 --profile the instructions a task by callgrind, function by function: in runs of their own, which aren't timed. With --absent it tells
 what a task costs where no chunk of the second input is there, of 2,048 tasks and of 8,192: that should be the same, and less.
 """
-import argparse
 import array
 import json
 import os
@@ -23,7 +22,8 @@ import tempfile
 import time
 
 sys.dont_write_bytecode = True
-from stored import PROGRAM, folders, metadata, put, see_that_it_is_built
+from measured import words_of
+from stored import folders, metadata, put, see_that_it_is_built
 
 TASKS, ELEMENTS = 1 << 14, 1 << 8
 INPUTS = {"a": 1, "b": 10}
@@ -153,10 +153,7 @@ def profile(program, parent):
 
 
 def main():
-    words = argparse.ArgumentParser(description=__doc__, formatter_class=argparse.RawDescriptionHelpFormatter)
-    words.add_argument("--program", default=PROGRAM, help="the built program")
-    words.add_argument("--dir", action="append", help="a folder to measure in, as often as wanted")
-    words.add_argument("--runs", type=int, default=5, help="how many rounds")
+    words = words_of(__doc__)
     words.add_argument("--workers", type=int, nargs="+", default=[1, 4], help="how many workers, as many numbers as wanted")
     words.add_argument("--calls", action="store_true", help="count the system's calls too")
     words.add_argument("--absent", action="store_true", help="measure absent chunks too")

@@ -8,9 +8,7 @@ chunks, each a synced new file that is renamed; the program stores the partial r
 each round, and the least time of each is kept; the outputs are compared byte by byte. It prints times and ratios: in the folder in
 memory where there is one.
 """
-import argparse
 import itertools
-import json
 import os
 import shutil
 import sys
@@ -20,7 +18,8 @@ import time
 import numpy
 
 sys.dont_write_bytecode = True
-from stored import PROGRAM, metadata, same_chunks, store, tell, timed
+from measured import in_memory, node, over, turns, words_of
+from stored import metadata, same_chunks, store, tell, timed
 
 SIDE, CHUNKS, BLOCK, BLOCKS = 1024, 8, 128, 4
 SUMS = {"sum over axis 0": ("sum", {"axes": [0]}), "sum over axis 1": ("sum", {"axes": [1]}), "sum of all": ("sum", {}),
@@ -90,9 +89,9 @@ class Peer:
 def expression(name):
     if name in PRODUCTS:
         array = PRODUCTS[name]
-        return json.dumps({"nodes": [{"id": "a", "op": "input", "name": array}, {"id": "r", "op": "matmul", "args": ["a", "a"]}], "out": "r", "store_as": "y"})
+        return over([array], node("r", "matmul", array, array))
     op, members = SUMS[name]
-    return json.dumps({"nodes": [{"id": "x", "op": "input", "name": "x"}, {"id": "r", "op": op, "args": ["x"], **members}], "out": "r", "store_as": "y"})
+    return over("x", node("r", op, "x", **members))
 
 
 def make_inputs(folder):
@@ -112,11 +111,10 @@ def make_inputs(folder):
 def measure(program, folder, name, rounds, python):
     commands = {"cubed": [program, folder, "run"], "numpy": [python, os.path.abspath(__file__), "--peer", name, folder]}
     runs = {peer: [] for peer in commands}
-    for number in range(rounds):
-        for peer in list(commands)[::1 if number % 2 == 0 else -1]:
-            for made in ("y", "_cubed") if peer == "cubed" else ("numpy",):
-                shutil.rmtree(os.path.join(folder, made), ignore_errors=True)
-            runs[peer].append(timed(commands[peer], expression(name)))
+    for peer in turns(commands, rounds):
+        for made in ("y", "_cubed") if peer == "cubed" else ("numpy",):
+            shutil.rmtree(os.path.join(folder, made), ignore_errors=True)
+        runs[peer].append(timed(commands[peer], expression(name)))
     rest = os.path.join(folder, "numpy", "c")
     single = os.path.isfile(rest)
     if single:
@@ -141,11 +139,7 @@ def main():
             (peer.place if op.startswith("arg") else peer.reduce)(op, members)
         print(time.perf_counter() - start)
         return
-    words = argparse.ArgumentParser(description=__doc__, formatter_class=argparse.RawDescriptionHelpFormatter)
-    words.add_argument("--program", default=PROGRAM)
-    words.add_argument("--dir", default="/dev/shm" if os.path.isdir("/dev/shm") else tempfile.gettempdir())
-    words.add_argument("--runs", type=int, default=5)
-    words.add_argument("--python", default=sys.executable)
+    words = words_of(__doc__, place=in_memory(), python="NumPy")
     words.add_argument("--only", nargs="*")
     given = words.parse_args()
     with tempfile.TemporaryDirectory(dir=given.dir, prefix="cubed-bench-") as folder:

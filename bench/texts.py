@@ -9,7 +9,6 @@ bytes are compared. For each the least of the runs stands; NumPy's time is witho
 Then it prints arrays in tall, narrow chunks and in chunks of whole rows, with the program alone, in turns, and compares
 both times: each row of the first meets many chunks. The ratio should be at most 2.
 """
-import argparse
 import json
 import os
 import shutil
@@ -20,35 +19,20 @@ import time
 
 import numpy
 
-HERE = os.path.dirname(os.path.abspath(__file__))
-PROGRAM = os.path.join(HERE, "..", "crates", "cu_bin", "out", "cu_bin")
+from measured import turns, words_of
+from stored import metadata, put
+
 # each shape with chunks of whole rows, and with narrow ones
 NARROW = [((131400, 12), (10950, 12), [(131400, 1), (131400, 5), (10950, 1)]),
           ((360, 60, 60), (10, 60, 60), [(360, 1, 60), (360, 10, 10)])]
 
 
-def put(folder, key, data):
-    path = os.path.join(folder, key)
-    os.makedirs(os.path.dirname(path), exist_ok=True)
-    with open(path, "wb") as file:
-        file.write(data)
-
-
-def metadata(shape, chunk):
-    """The metadata of an int32 array, as the program writes it."""
-    return json.dumps({
-        "chunk_grid": {"configuration": {"chunk_shape": chunk}, "name": "regular"},
-        "chunk_key_encoding": {"configuration": {"separator": "/"}, "name": "default"},
-        "codecs": [{"configuration": {"endian": "little"}, "name": "bytes"}], "data_type": "int32", "fill_value": 0,
-        "node_type": "array", "shape": shape, "zarr_format": 3}, separators=(",", ":")).encode()
-
-
 def store(folder, name, elements, side):
     """Stores a square array in square chunks."""
-    put(folder, f"{name}/zarr.json", metadata(list(elements.shape), [side, side]))
+    put(os.path.join(folder, name, "zarr.json"), metadata("int32", list(elements.shape), [side, side]).encode())
     for i in range(0, elements.shape[0], side):
         for j in range(0, elements.shape[1], side):
-            put(folder, f"{name}/c/{i // side}/{j // side}", elements[i:i + side, j:j + side].tobytes())
+            put(os.path.join(folder, name, "c", str(i // side), str(j // side)), elements[i:i + side, j:j + side].tobytes())
 
 
 def printed_by_numpy(folder, name, size, side):
@@ -72,8 +56,8 @@ def loaded_by_numpy(folder, text):
         whole = numpy.zeros(chunk, "<i4")
         part = elements[number * chunk:(number + 1) * chunk]
         whole[:len(part)] = part
-        put(folder, f"n/c/{number}", whole.tobytes())
-    put(folder, "n/zarr.json", metadata(told["shape"], told["chunk_shape"]))
+        put(os.path.join(folder, "n", "c", str(number)), whole.tobytes())
+    put(os.path.join(folder, "n", "zarr.json"), metadata("int32", told["shape"], told["chunk_shape"]).encode())
 
 
 def timed(action):
@@ -99,13 +83,13 @@ def measure_print(program, folder, runs, side):
 
 def store_chunks(folder, name, elements, chunk):
     """Stores an array in chunks of any shape, with zeros past its edges."""
-    put(folder, f"{name}/zarr.json", metadata(list(elements.shape), list(chunk)))
+    put(os.path.join(folder, name, "zarr.json"), metadata("int32", list(elements.shape), list(chunk)).encode())
     counts = [-(-size // part) for size, part in zip(elements.shape, chunk)]
     for coord in numpy.ndindex(*counts):
         whole = numpy.zeros(chunk, "<i4")
         part = elements[tuple(slice(number * size, (number + 1) * size) for number, size in zip(coord, chunk))]
         whole[tuple(slice(size) for size in part.shape)] = part
-        put(folder, "/".join([name, "c", *map(str, coord)]), whole.tobytes())
+        put(os.path.join(folder, name, "c", *map(str, coord)), whole.tobytes())
 
 
 def measure_narrow(program, folder, runs, shape, wide, narrow):
@@ -115,9 +99,8 @@ def measure_narrow(program, folder, runs, shape, wide, narrow):
     for name, chunk in (("narrow", narrow), ("wide", wide)):
         shutil.rmtree(os.path.join(folder, name), ignore_errors=True)
         store_chunks(folder, name, elements, chunk)
-    for number in range(runs):
-        for name in list(times)[::1 if number % 2 == 0 else -1]:
-            times[name].append(timed(lambda: program_output([program, folder, "print", name])))
+    for name in turns(times, runs):
+        times[name].append(timed(lambda: program_output([program, folder, "print", name])))
     if times["narrow"][0][1].partition(b"\n")[2] != times["wide"][0][1].partition(b"\n")[2]:
         raise SystemExit("the texts differ")
     report(f"print of {list(shape)}, chunks of {list(narrow)} beside {list(wide)}", times["narrow"], times["wide"], "narrow", "wide")
@@ -145,10 +128,7 @@ def report(what, ours, peer, name="cubed", other_name="NumPy"):
 
 
 def main():
-    words = argparse.ArgumentParser(description=__doc__, formatter_class=argparse.RawDescriptionHelpFormatter)
-    words.add_argument("--program", default=PROGRAM)
-    words.add_argument("--dir", default=tempfile.gettempdir())
-    words.add_argument("--runs", type=int, default=9)
+    words = words_of(__doc__, runs=9, place=tempfile.gettempdir())
     given = words.parse_args()
     program = os.path.abspath(given.program)
     with tempfile.TemporaryDirectory(dir=given.dir) as folder:

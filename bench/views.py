@@ -36,7 +36,8 @@ import numpy
 sys.dont_write_bytecode = True
 import programs  # programs.py, in this folder, as is workers.py
 import workers
-from stored import (MIB, PROGRAM, can_import, clear, link_as_version_2, metadata, put, same_as_version_2, same_chunks, see_that_it_is_built, store,
+from measured import in_memory, node, over, turns, words_of
+from stored import (MIB, can_import, clear, link_as_version_2, metadata, put, same_as_version_2, same_chunks, see_that_it_is_built, store,
                     store_by_dask, tell, timed)
 
 # The views along strides: at most so much of the time of the peers, and of NumPy's where it goes across the cache's lines.
@@ -137,8 +138,7 @@ class Peer:
 
 
 def viewed(op, *args, **members):
-    inputs = [{"id": name, "op": "input", "name": name} for name in args]
-    return json.dumps({"nodes": [*inputs, {"id": "r", "op": op, **({"args": list(args)} if args else {}), **members}], "out": "r", "store_as": "y"})
+    return over(args, node("r", op, *args, **members))
 
 
 def expressions(chunks):
@@ -296,7 +296,7 @@ class Doubled:
         make_array(folder, "s", [self.ELEMENTS * count], [self.ELEMENTS])
 
     def expression(self, count):
-        return json.dumps({"nodes": [{"id": "s", "op": "input", "name": "s"}, {"id": "r", "op": "add", "args": ["s", "s"]}], "out": "r", "store_as": "y"})
+        return over("s", node("r", "add", "s", "s"))
 
     def by_numpy(self, folder, count):
         start = time.perf_counter()
@@ -345,10 +345,9 @@ MADE = {"cubed": ("y", "_cubed"), "numpy": ("numpy",), "dask": ("dask",)}
 def measured(commands, folder, text, rounds):
     """Runs the ways in turn over an expression. Returns what was measured of each."""
     runs = {peer: [] for peer in commands}
-    for number in range(rounds):
-        for peer in list(commands)[::1 if number % 2 == 0 else -1]:
-            clear(folder, MADE[peer])
-            runs[peer].append(timed(commands[peer], text))
+    for peer in turns(commands, rounds):
+        clear(folder, MADE[peer])
+        runs[peer].append(timed(commands[peer], text))
     return runs
 
 
@@ -438,13 +437,9 @@ def measure_gains(given):
 
 
 def main():
-    words = argparse.ArgumentParser(description=__doc__, formatter_class=argparse.RawDescriptionHelpFormatter)
-    words.add_argument("--program", default=PROGRAM)
-    words.add_argument("--dir", default="/dev/shm" if os.path.isdir("/dev/shm") else tempfile.gettempdir())
-    words.add_argument("--runs", type=int, default=5)
+    words = words_of(__doc__, place=in_memory(), python="NumPy, Dask and zarr")
     words.add_argument("--workers", type=int, default=1, help="how many workers; of several their gain is measured, of the views along strides alone")
     words.add_argument("--c", action="store_true", help="with several workers, measure the gain of as many processes of plain loops in C too")
-    words.add_argument("--python", default=sys.executable)
     words.add_argument("--mebibytes", type=int, default=256, choices=[16, 64, 256, 1024])
     words.add_argument("--fusion", type=int, choices=[1, 2], default=1, help="the version of the program's plans")
     words.add_argument("--only", nargs="*", help="the views whose names have one of these words")

@@ -18,7 +18,6 @@ must be in --python.
 import argparse
 import functools
 import itertools
-import json
 import os
 import statistics
 import sys
@@ -26,7 +25,8 @@ import tempfile
 
 sys.dont_write_bytecode = True
 import small  # small.py, in this folder
-from stored import (GNU_TIME, MIB, PROGRAM, can_import, clear, folders, link_as_version_2, metadata, put, see_that_all_is_the_same,
+from measured import node, over, turns, words_of
+from stored import (GNU_TIME, MIB, can_import, clear, folders, link_as_version_2, metadata, put, see_that_all_is_the_same,
                     see_that_it_is_built, store_by_dask, timed)
 
 ONE, MANY, DASK, LOOP, LOOPS = "one worker", "workers", "Dask", "one process of C", "processes of C"
@@ -41,10 +41,6 @@ DAY_AIM, GAIN_AIM = 1 / 0.9, 0.9
 TYPES = {"int32": "<i4", "int64": "<i8"}
 
 
-def node(name, op, *args, **members):
-    return {"id": name, "op": op, "args": list(args), **members}
-
-
 class Work:
     """What is computed: the inputs' shape and chunk shape, the nodes over them, and the same by Dask's arrays."""
 
@@ -54,8 +50,7 @@ class Work:
         self.aims = {ONE: AIM, DASK: DASK_AIM}
 
     def expression(self):
-        given = [{"id": name, "op": "input", "name": name} for name in self.inputs]
-        return json.dumps({"nodes": given + self.nodes, "out": self.nodes[-1]["id"], "store_as": "y"})
+        return over(self.inputs, *self.nodes)
 
 
 class DayWork:
@@ -165,12 +160,11 @@ def ways_of(given, folder, name, work):
 def measure(given, ways, folder, name, text):
     """Goes through the ways over an expression in turn, and compares what they store. Returns what was measured of each."""
     told = {way: Told() for way in ways}
-    for number in range(given.runs):
-        for way in list(ways)[::1 if number % 2 == 0 else -1]:
-            clear(folder, MADE[way])
-            os.sync()
-            told[way].add(timed(ways[way], text), way == DASK)
-            see_that_all_is_the_same(folder, name)
+    for way in turns(ways, given.runs):
+        clear(folder, MADE[way])
+        os.sync()
+        told[way].add(timed(ways[way], text), way == DASK)
+        see_that_all_is_the_same(folder, name)
     return told
 
 
@@ -272,14 +266,10 @@ def measure_in(given, parent):
 
 
 def main():
-    words = argparse.ArgumentParser(description=__doc__, formatter_class=argparse.RawDescriptionHelpFormatter)
-    words.add_argument("--program", default=PROGRAM, help="the built program")
-    words.add_argument("--dir", action="append", help="a folder to measure in, as often as wanted")
-    words.add_argument("--runs", type=int, default=5, help="how many rounds")
+    words = words_of(__doc__, python="NumPy, Dask and zarr")
     words.add_argument("--workers", type=int, default=4, help="how many workers, and threads of Dask")
     words.add_argument("--fusion", type=int, choices=[1, 2], default=1, help="the version of the program's plans")
     words.add_argument("--c", action="store_true", help="measure a day's works by plain loops in C too")
-    words.add_argument("--python", default=sys.executable, help="the Python that has NumPy, Dask and zarr")
     words.add_argument("--mebibytes", type=int, default=256, help="the size of each input")
     words.add_argument("--only", nargs="*", help="the works whose names have one of these words, `small` and `memory`")
     words.add_argument("--peer", nargs=2, help=argparse.SUPPRESS)

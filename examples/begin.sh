@@ -1,4 +1,11 @@
 # Read by the examples: goes to the top of the repository, with the whole path of the folder that is given as `folder`.
+case ${1-} in
+-h | --help)
+    echo "usage: $0 DIR"
+    sed -n '2,/^[^#]/s/^# //p' "$0"
+    exit 0
+    ;;
+esac
 if [ $# -ne 1 ]; then
     echo "usage: $0 DIR" >&2
     exit 1

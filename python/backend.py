@@ -1,7 +1,7 @@
 """The build of the package: a wheel without setuptools, `wheel` or the network.
 
 In a clone whose program is built, the program goes into the wheel, which then is one of this platform. Elsewhere the wheel is pure,
-and the package says at the first run how to get the program.
+its version ends with `+without.program`, which pip says at its end, and the package says at the first run how to get the program.
 """
 from __future__ import annotations
 
@@ -22,6 +22,8 @@ HERE = os.path.dirname(os.path.abspath(__file__))
 PACKAGE = "cengmoat"
 # The program as the package looks for it, beside its modules.
 BESIDE = f"{PACKAGE}/cubed"
+# What the version says behind its number where the program isn't in the wheel: pip shows nothing else of a build.
+WITHOUT = "+without.program"
 # (a zip file knows no time before)
 EPOCH = (1980, 1, 1, 0, 0, 0)
 EXECUTABLE, PLAIN = 0o755, 0o644
@@ -32,6 +34,14 @@ def _settings() -> dict[str, str]:
     with open(os.path.join(HERE, "pyproject.toml"), encoding="utf-8") as file:
         table = file.read().partition("[project]")[2].partition("\n[")[0]
     return dict(re.findall(r'^([\w-]+) = "(.*)"$', table, re.M))
+
+
+def _scripts() -> str:
+    """Return the commands that pip installs, as a wheel says them."""
+    with open(os.path.join(HERE, "pyproject.toml"), encoding="utf-8") as file:
+        table = file.read().partition("[project.scripts]")[2].partition("\n[")[0]
+    found = re.findall(r'^([\w-]+) = "(.*)"$', table, re.M)
+    return "\n".join(["[console_scripts]", *(f"{name} = {call}" for name, call in found), ""])
 
 
 def _lists(name: str, table: str = "project") -> list[str]:
@@ -58,7 +68,7 @@ def _program() -> Optional[str]:
         found: Optional[str] = finding["built_program"](os.path.dirname(HERE))
         return found
     except LookupError as missing:
-        print(f"cengmoat: {missing}; the package is installed without the program", file=sys.stderr)
+        print(f"cengmoat: {missing}; the package is installed without the program", file=sys.stderr, flush=True)
         return None
 
 
@@ -76,12 +86,13 @@ def _metadata(settings: dict[str, str]) -> str:
 class _Wheel:
     """A wheel that is being written: its files, and the list of them that stands at its end."""
 
-    def __init__(self, folder: str, is_pure: bool) -> None:
+    def __init__(self, folder: str, platform: str = "any", build: str = "", more: str = "") -> None:
         self.settings = _settings()
-        self.tag = "py3-none-any" if is_pure else f"py3-none-{re.sub(r'[-.]', '_', sysconfig.get_platform())}"
+        self.settings["version"] += more
+        self.tag, self.build = f"py3-none-{platform}", build
         self.head = f"{self.settings['name']}-{self.settings['version']}"
-        self.name = f"{self.head}-{self.tag}.whl"
-        self.is_pure = is_pure
+        self.name = "-".join(filter(None, (self.head, build, self.tag))) + ".whl"
+        self.is_pure = platform == "any"
         self.rows: list[str] = []
         self.file = zipfile.ZipFile(os.path.join(folder, self.name), "w", zipfile.ZIP_DEFLATED)
 
@@ -97,7 +108,9 @@ class _Wheel:
         info = f"{self.head}.dist-info"
         self.put(f"{info}/METADATA", _metadata(self.settings).encode())
         pure = "true" if self.is_pure else "false"
-        self.put(f"{info}/WHEEL", f"Wheel-Version: 1.0\nGenerator: cengmoat\nRoot-Is-Purelib: {pure}\nTag: {self.tag}\n".encode())
+        self.put(f"{info}/WHEEL", (f"Wheel-Version: 1.0\nGenerator: cengmoat\nRoot-Is-Purelib: {pure}\nTag: {self.tag}\n"
+                 + (f"Build: {self.build}\n" if self.build else "")).encode())
+        self.put(f"{info}/entry_points.txt", _scripts().encode())
         self.rows.append(f"{info}/RECORD,,")
         self.file.writestr(zipfile.ZipInfo(f"{info}/RECORD", EPOCH), "\n".join(self.rows) + "\n")
         self.file.close()
@@ -109,20 +122,33 @@ def _read(path: str) -> bytes:
         return file.read()
 
 
-def build_wheel(wheel_directory: str, config_settings: Optional[dict[str, Any]] = None, metadata_directory: Optional[str] = None) -> str:
-    """Build a wheel, with the program where it is built, and return its name."""
-    program = _program()
-    wheel = _Wheel(wheel_directory, program is None)
+def _closed(wheel: _Wheel, program: Optional[bytes], said: str = "") -> str:
+    """Write a wheel's files, with the program where there is one and what is said of it, and return its name."""
     for name in _sources():
         wheel.put(name, _read(os.path.join(HERE, name)))
     if program is not None:
-        wheel.put(BESIDE, _read(program), EXECUTABLE)
+        wheel.put(BESIDE, program, EXECUTABLE)
+    if said:
+        wheel.put(f"{PACKAGE}/PROVED.txt", said.encode())
     return wheel.close()
+
+
+def wheel_with(folder: str, program: bytes, platform: str, build: str, said: str) -> str:
+    """Build a wheel with a program for a platform, with a number of its build and what is said of the program, and return its name."""
+    return _closed(_Wheel(folder, platform, build), program, said)
+
+
+def build_wheel(wheel_directory: str, config_settings: Optional[dict[str, Any]] = None, metadata_directory: Optional[str] = None) -> str:
+    """Build a wheel, with the program where it is built, and return its name."""
+    program = _program()
+    if program is None:
+        return _closed(_Wheel(wheel_directory, more=WITHOUT), None)
+    return _closed(_Wheel(wheel_directory, re.sub(r"[-.]", "_", sysconfig.get_platform())), _read(program))
 
 
 def build_editable(wheel_directory: str, config_settings: Optional[dict[str, Any]] = None, metadata_directory: Optional[str] = None) -> str:
     """Build a wheel that leads here, and return its name."""
-    wheel = _Wheel(wheel_directory, True)
+    wheel = _Wheel(wheel_directory)
     wheel.put(f"__editable__.{PACKAGE}.pth", f"{HERE}\n".encode())
     return wheel.close()
 

@@ -20,6 +20,7 @@ from operators import axis_in, summed_axis  # noqa: E402
 from rechunk_cases import planned  # noqa: E402
 from reduction_cases import ran, refused_one, reported  # noqa: E402
 from view_cases import AMPLE, counted, seen  # noqa: E402
+from said import usage_if_asked
 
 INTEGERS = [dtype for dtype in rules.SIZES if dtype != "bool"]
 GROUPS = ("groupby_sum", "groupby_min")
@@ -342,4 +343,5 @@ def along_cases():
 
 
 if __name__ == "__main__":
+    usage_if_asked(__doc__)
     tables.write("along.json", along_cases())

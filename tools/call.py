@@ -6,13 +6,14 @@ usage: tools/call.py PROGRAM DIR COMMAND WORDS..
 
 - `run --progress 1` and `resume --progress 1` show on a terminal how many tasks are done, by the
   chunks that are there.
-- `load` holds the lock of the array's name, which python/ uses too, so that two that store one
-  array keep each other out.
+- A call that stores an array holds the lock of its name, which python/ uses too.
 - After Ctrl-C it says what is stored and how one goes on; after 10 and 16 the space, files and
   rights that it finds; after 2, 3 and 4 what is wrong with the words or with the text.
 
 The exit status is the program's, and a signal that ends the program ends this too.
 """
+from __future__ import annotations
+
 import contextlib
 import ctypes
 import os
@@ -23,13 +24,18 @@ import subprocess
 import sys
 import threading
 import time
+from typing import Any, Optional, Sequence, Union
 
+import fresh
 import locks
-from words import OPTIONS, Wrong, read, told_of, without_progress
-from zarr_store import NAME, Failed, Stored, shown
+import stdin_text
+from options import plan_numbers
+from said import Failed, shown, usage_if_asked
+from words import Wrong, read, told_of, without_progress
+from stdin_text import NAME
+from zarr_store import Stored
 
-MOST_TEXT, MOST_LINE = 1 << 20, 1 << 16
-TAKES_TEXT = ("run", "resume", "drop", "plan", "check", "load", "begin", "part")
+MOST_LINE = 1 << 16
 ENDING = (signal.SIGINT, signal.SIGTERM, signal.SIGHUP)
 # The seconds between two looks at the folder, and the part of the time that these may take.
 LEAST_WAIT, MOST_PART = 0.25, 0.02
@@ -46,108 +52,76 @@ class Call:
     of the array that it makes.
     """
 
-    def __init__(self, program, words):
+    def __init__(self, program: str, words: list[str]) -> None:
         self.folder, self.command = words[0], words[1] if len(words) > 1 else ""
         self.words = [program, *words[:2], *without_progress(words[2:])]
+        self.options: dict[str, int] = {}
+        self.wrong: Optional[Wrong] = None
         try:
             self.options, _ = read(*words)
         except Wrong as wrong:
-            self.options, self.wrong = {}, wrong
-        else:
-            self.wrong = None
-        self.text = self.stdin = None
-        if self.command in TAKES_TEXT and not self.wrong:
-            self.take_text()
+            self.wrong = wrong
+        takes_text = self.command in stdin_text.TAKES_TEXT and not self.wrong
+        self.text = stdin_text.taken() if takes_text else None
 
-    def take_text(self):
-        """Reads the text. A file is then read by the program once more, and what came otherwise is handed on. What can't be read is left
-        for the program to say so."""
-        start = place_in_file()
-        with contextlib.suppress(OSError, ValueError, AttributeError):
-            self.text = sys.stdin.buffer.read(MOST_TEXT + 2)
-        if start is not None:
-            os.lseek(0, start, os.SEEK_SET)
-        elif self.text is not None:
-            self.stdin = handed_on(self.text)
+    def locks(self) -> list[tuple[str, bool]]:
+        """The names whose locks it holds, and whether it holds each alone."""
+        if self.wrong:
+            return []
+        if os.path.isdir(self.folder):
+            return stdin_text.locks_of(self.command, self.text)
+        return fresh.locks_of(self.words[1:], self.text)
 
     @property
-    def name(self):
+    def name(self) -> Optional[str]:
         """The name of the array that the call makes, or nothing where it makes none."""
-        from tasks import name_of_text
-        found = name_of_text(self.text) if self.text else None
+        found = stdin_text.name_of_text(self.text) if self.text else None
         name = "demo_y" if self.command == "demo" else found
         return name if isinstance(name, str) and NAME.match(name) else None
 
-    def tasks(self):
+    def tasks(self) -> Any:
         """The tasks of the plan of the text, or nothing."""
         import tasks
-        found = [self.options.get(name, OPTIONS[name][2])
-                 for name in ("allowed-mem", "reserved-mem", "split-every", "fusion")]
+        found = plan_numbers(self.options)
         return tasks.of_text(self.folder, self.text, *found) if self.text else None
-
-
-def place_in_file():
-    """The place in the file that standard input is, or nothing where it is none."""
-    with contextlib.suppress(OSError):
-        if stat.S_ISREG(os.fstat(0).st_mode):
-            return os.lseek(0, 0, os.SEEK_CUR)
-    return None
-
-
-def handed_on(text):
-    """A descriptor from which a text is read: of a file without a name or, where there may be none
-    of that size, of a pipe.
-    """
-    with contextlib.suppress(OSError, AttributeError):
-        made = os.memfd_create("text")
-        if os.write(made, text) == len(text):
-            os.lseek(made, 0, os.SEEK_SET)
-            return made
-    read_end, write_end = os.pipe()
-
-    def feed():
-        with contextlib.suppress(OSError), open(write_end, "wb") as file:
-            file.write(text)
-
-    threading.Thread(target=feed, daemon=True).start()
-    return read_end
 
 
 class Line:
     """What the program writes on standard error, which is passed on as it comes."""
 
-    def __init__(self):
+    def __init__(self) -> None:
         self.before = b""
         self.read_end, self.write_end = os.pipe()
         self.told, self.thread = b"", threading.Thread(target=self.follow, daemon=True)
 
-    def begin(self):
+    def begin(self) -> None:
         os.close(self.write_end)
         self.thread.start()
 
-    def follow(self):
+    def follow(self) -> None:
         while block := os.read(self.read_end, MOST_LINE):
             self.told = (self.told + block)[:MOST_LINE]
             sys.stderr.buffer.write(self.before + block)
             sys.stderr.flush()
 
 
-def as_without_python():
-    """Gives the program what a shell gives it: the end of this script ends it too, a closed pipe is the system's, and a file that is too
-    large is a fault of a write."""
+def as_without_python(mask: set[Union[int, signal.Signals]]) -> None:
+    """Gives the program what a shell gives it: the end of this script ends it too, the signals of a mask wait, a closed pipe is the
+    system's, and a file that is too large is a fault of a write."""
     with contextlib.suppress(OSError, AttributeError):
         ctypes.CDLL(None).prctl(1, signal.SIGKILL)
     signal.signal(signal.SIGPIPE, signal.SIG_DFL)
     signal.signal(signal.SIGXFSZ, signal.SIG_IGN)
+    signal.pthread_sigmask(signal.SIG_SETMASK, mask)
 
 
 class Progress:
     """A line on the terminal with the tasks that are done of all."""
 
-    def __init__(self, tasks):
+    def __init__(self, tasks: Any) -> None:
         self.tasks, self.wait = tasks, LEAST_WAIT
 
-    def show(self):
+    def show(self) -> None:
         began = time.monotonic()
         done = self.tasks.done()
         at = next((it for it, count in zip(self.tasks.operations, done) if count < it.tasks),
@@ -156,45 +130,52 @@ class Progress:
         self.wait = max(LEAST_WAIT, (time.monotonic() - began) / MOST_PART)
 
     @staticmethod
-    def line(text):
+    def line(text: str) -> None:
         sys.stderr.write(NO_LINE.decode() + text)
         sys.stderr.flush()
 
 
-def run(call, lock=None):
+def run(call: Call, held: Sequence[int] = ()) -> tuple[int, str]:
     """Runs the program to its end, passes its signals on, and returns its status and its line on
     standard error.
     """
-    progress, said, child = None, Line(), None
+    progress, said = None, Line()
+    child: Optional[subprocess.Popen[bytes]] = None
     if call.options.get("progress") and sys.stderr.isatty():
         tasks = call.tasks()
         progress = Progress(tasks) if tasks and tasks.count else None
         said.before = NO_LINE if progress else b""
-    if lock is not None:
+    for lock in held:
         os.set_inheritable(lock, True)
 
-    def pass_on(number, _):
+    def pass_on(number: int, _: object) -> None:
         if child is not None:
             child.send_signal(number)
 
-    for number in ENDING:
-        # What is ignored stays so for the program too, as under nohup.
-        if signal.getsignal(number) is not signal.SIG_IGN:
-            signal.signal(number, pass_on)
-    child = subprocess.Popen(call.words, stdin=call.stdin, stderr=said.write_end, close_fds=False,
-                             preexec_fn=as_without_python)
+    # A signal that comes while the program is started waits until it can be passed on.
+    before = signal.pthread_sigmask(signal.SIG_BLOCK, ENDING)
+    try:
+        for number in ENDING:
+            # What is ignored stays so for the program too, as under nohup.
+            if signal.getsignal(number) is not signal.SIG_IGN:
+                signal.signal(number, pass_on)
+        child = subprocess.Popen(call.words, stderr=said.write_end, close_fds=False,
+                                 preexec_fn=lambda: as_without_python(before))
+    finally:
+        signal.pthread_sigmask(signal.SIG_SETMASK, before)
     said.begin()
     wait_for(child, progress, said)
     return child.returncode, said.told.decode("utf-8", "replace")
 
 
-def wait_for(child, progress, said):
+def wait_for(child: subprocess.Popen[bytes], progress: Optional[Progress], said: Line) -> None:
     """Waits for the end of the program and of what it says, and shows meanwhile how far it is."""
     while True:
         try:
             child.wait(progress.wait if progress else None)
             break
         except subprocess.TimeoutExpired:
+            assert progress is not None
             progress.show()
     if progress and child.returncode == 0:
         progress.show()
@@ -206,11 +187,11 @@ def wait_for(child, progress, said):
 
 # What is found
 
-def tell(text):
+def tell(text: object) -> None:
     print(f"cubed: {text}", file=sys.stderr)
 
 
-def tell_stopped(call):
+def tell_stopped(call: Call) -> None:
     """What a call that was broken off has stored, and how one goes on."""
     import tasks
     name = call.name
@@ -241,13 +222,13 @@ def tell_stopped(call):
     return tell(f"broken off; {done}: {how}")
 
 
-def rights_text(path):
+def rights_text(path: str) -> str:
     """Who may do what with a file or a folder."""
     found = os.stat(path)
     return f"it belongs to user {found.st_uid} and group {found.st_gid}, with the rights {stat.filemode(found.st_mode)}, and this is user {os.geteuid()}"
 
 
-def find_folder(path):
+def find_folder(path: str) -> str:
     """The nearest thing on the way to a path that is there, and what hinders one on the way, if
     anything.
     """
@@ -256,7 +237,7 @@ def find_folder(path):
     return path or "."
 
 
-def tell_found(path):
+def tell_found(path: str) -> None:
     """What is found where a file can't be read or written: the kind, the rights, the space and the
     files that are left.
     """
@@ -277,7 +258,7 @@ def tell_found(path):
     tell_space(home)
 
 
-def tell_space(home):
+def tell_space(home: str) -> None:
     """The space and the count of files that are left, and a limit on the size of files."""
     with contextlib.suppress(OSError):
         found = os.statvfs(home)
@@ -292,7 +273,7 @@ def tell_space(home):
         tell(f"a file may have {limit} bytes at most (ulimit -f)")
 
 
-def path_of_fault(call, fields):
+def path_of_fault(call: Call, fields: dict[str, str]) -> str:
     """The path that an answer names: its key, or the folder in which its task stores."""
     if "key" in fields:
         return os.path.join(call.folder, fields["key"])
@@ -302,7 +283,7 @@ def path_of_fault(call, fields):
     return os.path.join(call.folder, call.name or "")
 
 
-def tell_more(call, status, line):
+def tell_more(call: Call, status: int, line: str) -> None:
     """What is found after a status, on a terminal."""
     if status == 2:
         wrong = told_of(call.words[1:])
@@ -318,33 +299,15 @@ def tell_more(call, status, line):
         tell_found(path_of_fault(call, dict(word.partition("=")[::2] for word in line.split())))
 
 
-def loading_name(call):
-    """The name of the array of a text for `load` that is one, so that nothing is locked for one
-    that is refused anyway.
-    """
-    import array
-    import json
-    from zarr_store import TYPES, Layout
-    if call.command != "load" or call.wrong or not call.text or len(call.text) > MOST_TEXT:
-        return None
-    with contextlib.suppress(ValueError, KeyError, TypeError, OverflowError, RecursionError,
-                             AttributeError, Failed):
-        told = json.loads(call.text.decode("utf-8"))
-        layout = Layout(told["data_type"], told["shape"], told["chunk_shape"])
-        array.array(TYPES[layout.dtype], told["elements"])
-        return call.name
-    return None
-
-
-def main(program, *words):
+def main(program: str, *words: str) -> int:
     call = Call(program, list(words))
     if call.wrong and "progress" in call.wrong.told:
         print(f"error 2 code={call.wrong.code}\ncubed: {call.wrong.told}", file=sys.stderr)
         return 2
-    name = loading_name(call)
     try:
-        with locks.held(call.folder, name) if name else contextlib.nullcontext() as lock:
-            status, line = run(call, lock)
+        with contextlib.ExitStack() as stack:
+            held = [stack.enter_context(locks.held(call.folder, name, alone)) for name, alone in call.locks()]
+            status, line = run(call, [it for it in held if it is not None])
     except Failed as failed:
         tell(failed)
         return 1
@@ -358,6 +321,7 @@ def main(program, *words):
 
 
 if __name__ == "__main__":
+    usage_if_asked(__doc__, 1)
     try:
         ended = main(*sys.argv[1:])
     except KeyboardInterrupt:

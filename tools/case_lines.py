@@ -5,6 +5,7 @@ usage: tools/case_lines.py > crates/test_cases/stdout
 """
 import json
 import os
+from said import usage_if_asked
 
 FOLDER = f"{os.path.dirname(os.path.dirname(os.path.realpath(__file__)))}/crates/test_cases"
 
@@ -53,4 +54,5 @@ def main():
 
 
 if __name__ == "__main__":
+    usage_if_asked(__doc__)
     main()

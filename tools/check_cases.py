@@ -12,6 +12,8 @@ import os
 
 import numpy as np
 
+from said import usage_if_asked
+
 TOP = os.path.dirname(os.path.dirname(os.path.realpath(__file__)))
 BEFORE = "error 16 key="
 
@@ -310,4 +312,6 @@ def main():
     print(len(said["cases"]), "cases")
 
 
-main()
+if __name__ == "__main__":
+    usage_if_asked(__doc__)
+    main()

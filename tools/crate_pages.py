@@ -7,9 +7,13 @@ usage: tools/crate_pages.py [--new NAME]
 under the heading of crates.txt, or without a page that has the parts Proved, Tested and Limits, or an order of crates.txt in which a
 crate stands before one that it names.
 """
+from __future__ import annotations
+
 import os
 import re
 import sys
+from typing import Any
+from said import usage_if_asked
 
 TOP = os.path.dirname(os.path.dirname(os.path.realpath(__file__)))
 MOST = 40
@@ -34,14 +38,15 @@ The contract that is used above: `CALL`.
 """
 
 
-def text_of(path):
+def text_of(path: str) -> str:
     with open(f"{TOP}/{path}", encoding="utf-8") as file:
         return file.read()
 
 
-def listed():
+def listed() -> Any:
     """The crates of crates.txt in their order, each with the heading before it and the crates that it names."""
-    heading, found = "", {}
+    heading = ""
+    found: dict[str, Any] = {}
     for line in text_of("crates.txt").split("\n"):
         if line.startswith("# "):
             heading = line[2:].split(":")[0].rstrip(".")
@@ -51,9 +56,10 @@ def listed():
     return found
 
 
-def rows():
+def rows() -> Any:
     """The rows of the tables in docs/LAYERS.md, each with its heading and its words."""
-    heading, found = "", {}
+    heading = ""
+    found: dict[str, Any] = {}
     for line in text_of("docs/LAYERS.md").split("\n"):
         if line.startswith("## "):
             heading = line[3:]
@@ -63,7 +69,7 @@ def rows():
     return found
 
 
-def wrong():
+def wrong() -> Any:
     crates, table, before = listed(), rows(), set()
     has_headings = len({heading for heading, _ in crates.values()}) > 1
     for name, (heading, below) in crates.items():
@@ -84,7 +90,7 @@ def wrong():
     yield from (f"docs/LAYERS.md: {name} is no crate of crates.txt" for name in table if name not in crates)
 
 
-def main(words):
+def main(words: list[str]) -> int:
     if len(words) == 2 and words[0] == "--new":
         print(PAGE.format(words[1]), end="")
         return 0
@@ -99,4 +105,5 @@ def main(words):
 
 
 if __name__ == "__main__":
+    usage_if_asked(__doc__)
     sys.exit(main(sys.argv[1:]))

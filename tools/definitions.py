@@ -15,6 +15,9 @@ import sys
 sys.dont_write_bytecode = True
 import contract_size
 import crate_pages
+from said import usage_if_asked
+
+from said import usage_if_asked
 
 TOP = crate_pages.TOP
 CRATES, PAGE = f"{TOP}/crates", f"{TOP}/docs/DEFINITIONS.md"
@@ -122,4 +125,5 @@ def main(words):
 
 
 if __name__ == "__main__":
+    usage_if_asked(__doc__)
     sys.exit(main(sys.argv[1:]))

@@ -6,6 +6,7 @@ usage: tools/demo_cases.py DATA     (as crates/test_cases/data)
 import json
 import pathlib
 import sys
+from said import usage_if_asked
 
 EXPR = {
     "nodes": [
@@ -154,4 +155,5 @@ def main():
 
 
 if __name__ == "__main__":
+    usage_if_asked(__doc__)
     main()

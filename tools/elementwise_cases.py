@@ -16,6 +16,7 @@ sys.path.insert(0, f"{TOP}/compare")
 import rules  # noqa: E402
 import worker  # noqa: E402
 from rules import Array, compact  # noqa: E402
+from said import usage_if_asked
 
 try:
     import compare
@@ -919,4 +920,5 @@ def main():
 
 
 if __name__ == "__main__":
+    usage_if_asked(__doc__)
     main()

@@ -10,18 +10,22 @@ FOLDER is that of the arrays, and '' where none is given: then the types and sha
 known. The rules are those of compare/rules.py. Nothing is printed where nothing more is known than
 the guide's table says.
 """
+from __future__ import annotations
+
 import json
 import os
 import re
 import select
 import stat
 import sys
+from typing import Any, Callable, Optional
 
 sys.path.append(os.path.join(os.path.dirname(os.path.realpath(__file__)), "..", "compare"))
 import limits  # limits.py and rules.py, in compare
 import rules
 from words import near, told_of
-from zarr_store import METADATA_BYTES, Failed, bytes_in, shown, sizes_text
+from said import Failed, shown, usage_if_asked
+from zarr_store import METADATA_BYTES, bytes_in, sizes_text
 
 MOST_TEXT = rules.MOST_TEXT
 # The seconds for which a text is waited for that comes through a pipe.
@@ -42,7 +46,7 @@ KINDS = {
     "groups": "an integer from 1 to 65536"}
 
 
-def text_of(value):
+def text_of(value: Any) -> str:
     """A JSON value as it may be printed."""
     try:
         return shown(json.dumps(value, ensure_ascii=False, separators=(",", ":")), 60)
@@ -50,7 +54,7 @@ def text_of(value):
         return "a value that can't be printed"
 
 
-def kind_of(op, name, kind):
+def kind_of(op: Any, name: str, kind: Any) -> Optional[str]:
     """What a member takes, in words."""
     told = KINDS.get(name, "another kind of value")
     if op == "reshape" and name == "shape":
@@ -58,13 +62,13 @@ def kind_of(op, name, kind):
     return f"{told}, or null" if kind(None) else told
 
 
-def members_of(op):
+def members_of(op: Any) -> Any:
     """The members that a node of an operator must have, and those that it may have."""
     count, members, optional = rules.ROWS[op]
     return ["id", "op", *(["args"] if count else []), *members], list(optional)
 
 
-def members_text(op):
+def members_text(op: Any) -> str:
     wanted, optional = members_of(op)
     return f"{op} has {', '.join(wanted)}" + (f", and may have {', '.join(optional)}" if optional
                                               else "")
@@ -72,7 +76,7 @@ def members_text(op):
 
 # What is wrong with a text: error 3
 
-def member_fault(node):
+def member_fault(node: Any) -> Optional[str]:
     """What is wrong with the members of a node, or nothing."""
     if type(node) is not dict:
         return f"it is {text_of(node)}, and an object is wanted, with id, op and the members of its operator"
@@ -93,11 +97,11 @@ def member_fault(node):
     return value_fault(node)
 
 
-def value_fault(node):
+def value_fault(node: Any) -> Optional[str]:
     """What is wrong with the value of a member, or nothing."""
     op = node["op"]
     _, members, optional = rules.ROWS[op]
-    kinds = {"args": lambda value: type(value) is list, **members, **optional}
+    kinds: dict[str, Any] = {"args": lambda value: type(value) is list, **members, **optional}
     for name, kind in kinds.items():
         if name not in node or kind(node[name]):
             continue
@@ -110,7 +114,7 @@ def value_fault(node):
     return None
 
 
-def argument_fault(node):
+def argument_fault(node: Any) -> Optional[str]:
     """What is wrong with the arguments of a node."""
     op, args = node["op"], node["args"]
     least, most = rules.ROWS[op][0]
@@ -130,7 +134,7 @@ def argument_fault(node):
     return f"argument {written[0]} is written, {text_of(args[written[0]])}, and {op} takes arrays alone"
 
 
-def id_fault(nodes, number):
+def id_fault(nodes: Any, number: int) -> Optional[str]:
     """What is wrong with the id of a node, or with those that its arguments name."""
     node, ids = nodes[number], [it["id"] for it in nodes[:number]]
     if not rules.is_name(node["id"]):
@@ -146,7 +150,7 @@ def id_fault(nodes, number):
     return "an id is wrong"
 
 
-def top_fault(value):
+def top_fault(value: Any) -> Optional[str]:
     """What is wrong with the whole."""
     names = ("nodes", "out", "store_as")
     if type(value) is not dict:
@@ -162,14 +166,14 @@ def top_fault(value):
     for name in ("out", "store_as"):
         if type(value[name]) is not str:
             return f"{name} is {text_of(value[name])}, and a text is wanted"
-    ids = [node.get("id") for node in value["nodes"] if type(node) is dict
+    ids: list[str] = [node["id"] for node in value["nodes"] if type(node) is dict
            and type(node.get("id")) is str]
     if value["out"] not in ids:
         return f"out is {text_of(value['out'])}, which is the id of no node{near(value['out'], ids)}"
     return f"store_as is {text_of(value['store_as'])}, and {KINDS['name']} is wanted"
 
 
-def json_fault(data):
+def json_fault(data: Any) -> Optional[str]:
     """Where a text isn't JSON."""
     if not data.strip():
         return "the text is empty"
@@ -186,12 +190,12 @@ def json_fault(data):
     return "it is nested in more than 127 levels" if rules.nesting(text) > 127 else "a number or a text in it isn't one of JSON"
 
 
-def fields_of(line):
+def fields_of(line: str) -> dict[str, str]:
     return {name: value for name, _, value in (word.partition("=") for word in line.split())
             if value}
 
 
-def form_fault(data, fields):
+def form_fault(data: Any, fields: Any) -> Any:
     """What is wrong with a text that was refused with 3."""
     if fields["code"] == "1":
         return json_fault(data)
@@ -210,12 +214,12 @@ def form_fault(data, fields):
 
 # What is wrong with types and shapes: error 4
 
-def array_text(info):
+def array_text(info: Any) -> str:
     dtype, shape, chunk = info
     return f"{dtype}, shape {sizes_text(shape)}, chunk {sizes_text(chunk)}"
 
 
-def literal_fault(node, infos):
+def literal_fault(node: Any, infos: Any) -> Optional[str]:
     """Which written argument isn't of the type that it meets."""
     if node["op"] == "full":
         return f"value is {text_of(node['value'])}, and {range_text(node['dtype'])}"
@@ -229,14 +233,14 @@ def literal_fault(node, infos):
     return f"{text_of(wrong[0])} is written, and {range_text(dtype)}" if wrong else ""
 
 
-def range_text(dtype):
+def range_text(dtype: str) -> str:
     if dtype == "bool":
         return "bool has true and false"
     least, most = limits.limits(dtype)
     return f"{dtype} has the numbers from {least} to {most}"
 
 
-def shape_fault(node, arrays):
+def shape_fault(node: Any, arrays: Any) -> Optional[str]:
     """Which sizes don't fit."""
     shapes = [info[1] for info in arrays] + ([node["shape"]] if node["op"] == "broadcast_to"
                                              else [])
@@ -257,7 +261,7 @@ def shape_fault(node, arrays):
     return f"chunk has {len(node['chunk'])} sizes" if "chunk" in node else ""
 
 
-def axis_fault(node, arrays):
+def axis_fault(node: Any, arrays: Any) -> Optional[str]:
     """Which axes there are."""
     rank = len(arrays[0][1])
     if node["op"] in ("stack", "expand_dims"):
@@ -274,11 +278,11 @@ def axis_fault(node, arrays):
     return f"{given}{allowed}, and each stands once"
 
 
-def type_fault(node, code, arrays, infos):
+def type_fault(node: Any, code: int, arrays: Any, infos: Any) -> Optional[str]:
     """What is wrong with a node whose arguments have these types, shapes and chunks."""
     types = " and ".join(dict.fromkeys(info[0] for info in arrays))
     shape = sizes_text(arrays[0][1]) if arrays else ""
-    told = {
+    told: dict[int, Any] = {
         1: lambda: f"{types} have no common type",
         2: lambda: shape_fault(node, arrays), 3: lambda: axis_fault(node, arrays),
         4: lambda: f"the argument has the shape {shape}, and of no elements there is no least or greatest",
@@ -287,12 +291,12 @@ def type_fault(node, code, arrays, infos):
         8: lambda: f"{shape} has {rules.math.prod(arrays[0][1])} elements, and shape is {sizes_text(node['shape'])}",
         9: lambda: f"the argument has the shape {shape}, and index is {text_of(node['index'])}"
             if "index" in node else "step is 0"}
-    return told.get(code, lambda: "")()
+    return told[code]() if code in told else ""
 
 
-def held_in(folder):
+def held_in(folder: Any) -> Callable[[str], Optional[bytes]]:
     """The bytes of a key of a folder, or nothing."""
-    def held(key):
+    def held(key: str) -> Optional[bytes]:
         try:
             return bytes_in(os.path.join(folder, key), METADATA_BYTES)
         except (OSError, Failed):
@@ -300,7 +304,7 @@ def held_in(folder):
     return held
 
 
-def node_lines(expr, number, folder):
+def node_lines(expr: Any, number: int, folder: Any) -> Any:
     """A node with what is known of its arguments, and what is wrong with it."""
     node = expr["nodes"][number]
     lines = [f"node {number} is {text_of(node)}"]
@@ -322,7 +326,7 @@ def node_lines(expr, number, folder):
     return lines + [it for it in [type_fault(node, info, arrays, infos)] if it]
 
 
-def lines_of(number, fields, data, folder):
+def lines_of(number: int, fields: Any, data: Any, folder: Any) -> Any:
     """What is to be told of an answer over this text."""
     try:
         expr = rules.read(data)
@@ -342,7 +346,7 @@ def lines_of(number, fields, data, folder):
     return node_lines(expr, int(fields["node"]), folder)
 
 
-def told(number, fields, data, folder):
+def told(number: int, fields: Any, data: Any, folder: Any) -> list[str]:
     """The lines that tell more of an answer than the guide does. Nothing is told that can't be
     found out.
     """
@@ -355,7 +359,7 @@ def told(number, fields, data, folder):
         return []
 
 
-def waiting_text():
+def waiting_text() -> bytes:
     """The text on standard input, where one is there: none is waited for on a terminal, and for
     long nowhere.
     """
@@ -370,7 +374,7 @@ def waiting_text():
     return b""
 
 
-def answer_of(words):
+def answer_of(words: list[str]) -> Any:
     """The number and the fields of an answer, and the words of a call behind it."""
     number, fields, rest = None, {}, list(words)
     while rest:
@@ -384,13 +388,13 @@ def answer_of(words):
     return number, fields, rest
 
 
-def main(words):
+def main(words: list[str]) -> int:
     if words[:1] == ["--near"]:
         print(near(words[1], rules.ROWS).strip())
         return 0
     folder, *line = words
-    number, fields, call = answer_of(word for it in line
-                                     for word in (it.split() if it is line[0] else [it]))
+    number, fields, call = answer_of([word for it in line
+                                      for word in (it.split() if it is line[0] else [it])])
     lines = []
     if number == 2 and call:
         wrong = told_of(call)
@@ -405,4 +409,5 @@ def main(words):
 
 
 if __name__ == "__main__":
+    usage_if_asked(__doc__)
     sys.exit(main(sys.argv[1:]))

@@ -2,22 +2,25 @@
 """The commands `status` and `remove` of the script cubed: what lies in a folder of arrays, and
 removing an array with its plan.
 
+usage:
   cubed DIR status [NAME]
   cubed DIR remove NAME [--input] [--dry-run]
 
 They go by names, metadata and files alone. Neither reads a chunk, and neither needs the program.
 """
+from __future__ import annotations
+
 import contextlib
 import functools
 import os
 import signal
 import sys
+from typing import Any, Optional
 
 import locks
-from tasks import at_work_in, is_at_work, is_chunk_of_plan, of_record
-from zarr_store import (CHUNK, GROUP, METADATA, NO_METADATA, STOPPED, Failed, Stored, Unread,
-                        files_under, is_name, names_in, shown,
-                        sizes_text)
+from tasks import Tasks, at_work_in, is_at_work, is_chunk_of_plan, of_record
+from zarr_store import (CHUNK, GROUP, METADATA, NO_METADATA, STOPPED, State, Stored, Unread, files_under, is_name, names_in, sizes_text)
+from said import Failed, shown, usage_if_asked
 
 NO_ARRAY = "no array"
 # How many files of each kind are named.
@@ -28,7 +31,7 @@ class Wrong(Exception):
     """The words are wrong."""
 
 
-def counted(number, noun):
+def counted(number: int, noun: str) -> str:
     return f"{number} {noun}{'' if number == 1 else 's'}"
 
 
@@ -37,7 +40,7 @@ class Found:
     it, and its state.
     """
 
-    def __init__(self, stored, processes=None):
+    def __init__(self, stored: Stored, processes: Optional[dict[int, Any]] = None) -> None:
         self.stored, self.processes = stored, processes or {}
         self.layout = self.unread = None
         self.is_link, self.is_plan_link = os.path.islink(stored.path), os.path.islink(stored.plan)
@@ -64,7 +67,7 @@ class Found:
         kinds = {"plan.json", *self.between, *self.between_stopped}
         self.plan_others = [name for name in files if name not in kinds] + links
 
-    def is_chunk(self, name):
+    def is_chunk(self, name: str) -> bool:
         """Whether a file of the array's folder has the name of one of its chunks, or of one that
         the program writes where the grid isn't known.
         """
@@ -72,14 +75,14 @@ class Found:
             return self.layout.coordinate(name) is not None
         return CHUNK.match(name) is not None
 
-    def is_stopped(self, name):
+    def is_stopped(self, name: str) -> bool:
         """Whether a file has the name that a write of metadata or of a chunk leaves when it is
         stopped.
         """
         left = STOPPED.match(name)
         return left is not None and (left[1] in METADATA or self.is_chunk(left[1]))
 
-    def has_files(self):
+    def has_files(self) -> bool:
         """Whether files of an array lie here, and no others' arrays: neither in what a link leads
         to nor in a group.
         """
@@ -94,31 +97,32 @@ class Found:
         return any(name in METADATA or name == "c" or self.is_stopped(name) for name in names)
 
     @functools.cached_property
-    def state_of_chunks(self):
+    def state_of_chunks(self) -> State:
         """Which of its chunks are whole, missing, or of another length."""
+        assert self.layout is not None
         return self.stored.state(self.layout)
 
     @functools.cached_property
-    def tasks(self):
+    def tasks(self) -> Optional[Tasks]:
         """The tasks of the plan that makes it, or nothing."""
         return of_record(self.stored)
 
     @functools.cached_property
-    def is_unfinished(self):
+    def is_unfinished(self) -> bool:
         return self.stored.has_record() and (self.layout is None
                                              or bool(self.state_of_chunks.missing))
 
     @property
-    def has_own_record(self):
+    def has_own_record(self) -> bool:
         """Whether the record lies in the folder itself, and not behind a link."""
         return self.stored.has_record() and not self.is_plan_link
 
     @property
-    def is_whole(self):
+    def is_whole(self) -> bool:
         """Whether all of its chunks are files of their length."""
         return self.layout is not None and self.state_of_chunks.whole == self.layout.chunk_count
 
-    def state(self):
+    def state(self) -> str:
         """One phrase, and what to do where something is to be done."""
         if self.is_unfinished:
             return f"unfinished: {self.progress()}" + ("" if self.layout else f"; {self.no_layout()}")
@@ -131,7 +135,7 @@ class Found:
         return ("array; a chunk without a file is the fill value" if self.state_of_chunks.missing
                 else "array") + told
 
-    def progress(self):
+    def progress(self) -> str:
         """How far a run is, and whether it is at work where that is known."""
         done = ""
         if self.tasks:
@@ -140,22 +144,22 @@ class Found:
             return done + "a run is at work"
         return done + "a run was stopped, or is at work"
 
-    def no_layout(self):
+    def no_layout(self) -> str:
         return "no metadata" if self.unread in (None, NO_METADATA) else f"not read: {self.unread}"
 
     @property
-    def is_left(self):
+    def is_left(self) -> bool:
         """Whether it is what a write of tools/zarr left when it was stopped, whose metadata would
         have come last.
         """
-        return STOPPED.match(self.stored.name) and not self.metadata
+        return STOPPED.match(self.stored.name) is not None and not self.metadata
 
     @property
-    def is_nothing(self):
+    def is_nothing(self) -> bool:
         """Whether nothing of an array or of a plan lies here."""
         return self.state() == NO_ARRAY and not self.rest()
 
-    def state_unread(self):
+    def state_unread(self) -> str:
         if self.is_left:
             return "left by a write that was stopped"
         if self.is_link and not self.has_array:
@@ -164,19 +168,19 @@ class Found:
             return self.state_of_left() if self.chunks or self.stopped else NO_ARRAY
         return f"not read: {self.unread}"
 
-    def state_of_left(self):
+    def state_of_left(self) -> str:
         """What chunks without metadata are."""
         if locks.is_held(self.stored.folder, self.stored.name):
             return "no zarr.json; a load is at work"
         return "no zarr.json; a load that was stopped leaves this: load it again"
 
-    def rest(self):
+    def rest(self) -> list[str]:
         """What lies there beside the array."""
         rest = [counted(len(self.between), "chunk") + " in between"] if self.between else []
         stopped = len(self.stopped) + len(self.between_stopped)
         return rest + ([counted(stopped, "file") + " of stopped writes"] if stopped else [])
 
-    def row(self):
+    def row(self) -> list[str]:
         layout = self.layout
         whole = f"{self.state_of_chunks.whole} of {layout.chunk_count}" if layout else "-"
         told = [layout.dtype, sizes_text(layout.shape),
@@ -184,7 +188,7 @@ class Found:
         return [self.stored.name, *told, whole, "; ".join([self.state()] + self.rest())]
 
 
-def is_left_of_plan(name):
+def is_left_of_plan(name: str) -> bool:
     """Whether a file below the folder of a plan has the name that a stopped write of the record or
     of a chunk leaves.
     """
@@ -192,7 +196,7 @@ def is_left_of_plan(name):
     return left is not None and (left[1] == "plan.json" or is_chunk_of_plan(left[1]))
 
 
-def bytes_of(folder, names):
+def bytes_of(folder: str, names: list[str]) -> str:
     """The bytes of these files, and how many they are."""
     total = 0
     for name in names:
@@ -201,14 +205,14 @@ def bytes_of(folder, names):
     return f"{total} bytes in {counted(len(names), 'file')}"
 
 
-def show_table(rows):
+def show_table(rows: list[list[str]]) -> None:
     rows = [["NAME", "TYPE", "SHAPE", "CHUNK", "STORED", "STATE"], *rows]
     widths = [max(len(row[at]) for row in rows) for at in range(5)]
     for row in rows:
         print("  ".join([text.ljust(width) for text, width in zip(row, widths)] + [row[5]]))
 
 
-def status(folder, words):
+def status(folder: str, words: list[str]) -> int:
     """Lists the arrays of a folder, or one of them with what its files take."""
     if len(words) > 1 or any(word.startswith("-") for word in words):
         raise Wrong("usage: cubed DIR status [NAME]")
@@ -216,8 +220,8 @@ def status(folder, words):
         raise Failed(f"{folder} is no folder")
     processes = at_work_in(folder)
     if not words:
-        found = [Found(Stored(folder, name), processes) for name in names_in(folder)]
-        show_table([it.row() for it in found if not it.is_nothing])
+        all_found = [Found(Stored(folder, name), processes) for name in names_in(folder)]
+        show_table([it.row() for it in all_found if not it.is_nothing])
         return 0
     found = named(folder, words[0], processes)
     stored = found.stored
@@ -234,7 +238,7 @@ def status(folder, words):
     return 1 if found.is_unfinished or found.layout and found.state_of_chunks.wrong else 0
 
 
-def show_operations(tasks):
+def show_operations(tasks: Tasks) -> None:
     """Of each operation that isn't done how many of its tasks are; of those behind one another the
     first ones.
     """
@@ -246,7 +250,7 @@ def show_operations(tasks):
         print(f"and {counted(len(left) - NAMED, 'further operation')} not done")
 
 
-def show_chunks(found):
+def show_chunks(found: Found) -> None:
     """The first chunks that have no file, those whose files are wrong, and what to do about these.
     """
     state = found.state_of_chunks
@@ -263,7 +267,7 @@ def show_chunks(found):
         print(f"without a file: {', '.join(missing[:NAMED])}{f' and {len(missing) - NAMED} more' if len(missing) > NAMED else ''}")
 
 
-def named(folder, name, processes=None):
+def named(folder: str, name: str, processes: Optional[dict[int, Any]] = None) -> Found:
     if not is_name(name):
         raise Wrong(f"{shown(name)!r} isn't a name: 1 to 32 letters, digits, _, - and ., the first a letter or a digit")
     found = Found(Stored(folder, name), processes)
@@ -272,7 +276,7 @@ def named(folder, name, processes=None):
     return found
 
 
-def remove(folder, words):
+def remove(folder: str, words: list[str]) -> int:
     """Removes an array and its plan: the metadata first, so that no reader takes the rest for an
     array, and the record last.
     """
@@ -293,26 +297,26 @@ def remove(folder, words):
     return 0
 
 
-def removable(folder, name, is_asked):
+def removable(folder: str, name: str, is_asked: bool) -> Found:
     """What lies under a name, if it may go."""
     found = named(folder, name, at_work_in(folder))
     refuse_removal(found, is_asked)
     return found
 
 
-def show_removal(found):
+def show_removal(found: Found) -> None:
     print(going(found), flush=True)
     for name in kept(found):
         print(f"stays, since it is no part of the array: {shown(name, 400)}")
 
 
-def refuse_locked(stored):
+def refuse_locked(stored: Stored) -> None:
     if locks.is_held(stored.folder, stored.name):
         holder = locks.who_holds(stored.folder, stored.name)
         raise Failed(f"{stored.name} is being computed or stored by {holder}: wait until it has ended")
 
 
-def refuse_removal(found, is_asked):
+def refuse_removal(found: Found, is_asked: bool) -> None:
     stored = found.stored
     if stored.name in found.processes.values():
         raise Failed(f"{stored.name} isn't removed: a run is at work that makes it; wait until it has ended, or end it")
@@ -327,7 +331,7 @@ def refuse_removal(found, is_asked):
         raise Failed(f"{stored.name} isn't removed, since its chunks can't be told from other files: {found.unread}")
 
 
-def going(found):
+def going(found: Found) -> str:
     """What goes, in one line."""
     if found.is_link:
         parts = [f"the link to {shown(os.readlink(found.stored.path), 400)}, and nothing of what it leads to"]
@@ -340,12 +344,12 @@ def going(found):
     return f"{found.stored.name}: {', '.join(parts) or 'empty folders'}"
 
 
-def kept(found):
+def kept(found: Found) -> list[str]:
     own = [os.path.join(found.stored.name, name) for name in found.others]
     return own + [os.path.join("_cubed", found.stored.name, name) for name in found.plan_others]
 
 
-def remove_all(found):
+def remove_all(found: Found) -> None:
     stored, top = found.stored, found.stored.folder
     own = found.metadata + found.chunks + found.stopped
     unlink_below(top, [stored.name] if found.is_link else [f"{stored.name}/{it}" for it in own])
@@ -357,7 +361,7 @@ def remove_all(found):
     remove_folders(top, plan)
 
 
-def unlink_below(top, names):
+def unlink_below(top: str, names: list[str]) -> None:
     """Removes these files below a folder, in their order. No link below it is followed, whenever it
     was put there.
     """
@@ -377,7 +381,7 @@ def unlink_below(top, names):
             os.close(here)
 
 
-def folder_of(top, folder):
+def folder_of(top: str, folder: str) -> int:
     """The descriptor of a folder below another one, which alone may be a link."""
     kind = os.O_RDONLY | os.O_DIRECTORY | os.O_CLOEXEC
     found = os.open(top, kind)
@@ -390,11 +394,11 @@ def folder_of(top, folder):
     return found
 
 
-def unlink(name, folder):
+def unlink(name: str, folder: int) -> None:
     os.unlink(name, dir_fd=folder)
 
 
-def remove_folders(top, folder):
+def remove_folders(top: str, folder: str) -> None:
     """Removes a folder below another one, and those below it, where they are empty."""
     above, _, last = folder.rpartition("/")
     with contextlib.suppress(OSError):
@@ -409,7 +413,7 @@ def remove_folders(top, folder):
             os.close(here)
 
 
-def main(words):
+def main(words: list[str]) -> int:
     try:
         folder, command, *rest = words
         return {"status": status, "remove": remove}[command](folder, rest)
@@ -428,5 +432,6 @@ def main(words):
 
 
 if __name__ == "__main__":
+    usage_if_asked(__doc__)
     signal.signal(signal.SIGTERM, lambda *_: (_ for _ in ()).throw(KeyboardInterrupt()))
     sys.exit(main(sys.argv[1:]))

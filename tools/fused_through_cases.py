@@ -27,6 +27,7 @@ from gate_cases import by  # noqa: E402
 from rechunk_cases import printed  # noqa: E402
 from reduction_cases import made_by, reported  # noqa: E402
 from view_cases import AMPLE, array_of, counted, seen  # noqa: E402
+from said import usage_if_asked
 
 
 def words_of(command, allowed=None, reserved=0, split_every=rules.SPLIT_EVERY):
@@ -545,6 +546,7 @@ def cases_in_memory():
 
 
 if __name__ == "__main__":
+    usage_if_asked(__doc__)
     sys.setrecursionlimit(5000)
     tables.write("fused_through.json", cases_in_memory())
     stop_cases.write("fused_through_folder.json", *folder_cases(*jobs()))

@@ -16,6 +16,7 @@ import elementwise_cases as tables  # noqa: E402
 import reduction_cases  # noqa: E402
 import stop_cases  # noqa: E402
 from elementwise_cases import ADDED, DOUBLED, a_and_b, expression, line_of, ran, six  # noqa: E402
+from said import usage_if_asked
 
 
 def by(workers, row, hold=(), until=(), backups=False):
@@ -95,4 +96,5 @@ def main():
 
 
 if __name__ == "__main__":
+    usage_if_asked(__doc__)
     main()

@@ -10,6 +10,8 @@ has the time of all that the gate began, as the system counts it. What earlier r
 in the table: from nothing means on a machine, or over a folder of kept work, that has nothing. Edits that another command tries at
 the same time are counted too, so it is to run alone.
 """
+from __future__ import annotations
+
 import collections
 import datetime
 import os
@@ -17,6 +19,8 @@ import re
 import subprocess
 import sys
 import time
+from typing import Any
+from said import usage_if_asked
 
 TOP = os.path.dirname(os.path.dirname(os.path.realpath(__file__)))
 PAGE = f"{TOP}/bench/GATE.md"
@@ -24,12 +28,12 @@ KINDS = ("proof", "tests", "edits")
 TICKS = os.sysconf("SC_CLK_TCK")
 
 
-def text_of(path):
+def text_of(path: str) -> str:
     with open(path, encoding="utf-8", errors="replace") as file:
         return file.read()
 
 
-def seen(pid):
+def seen(pid: str) -> Any:
     """Returns of a process of the prover when it began, the seconds that it used, its crate and the kind of its work; nothing of another."""
     stat = text_of(f"/proc/{pid}/stat")
     fields = stat[stat.rindex(")") + 2:].split()
@@ -47,7 +51,7 @@ def seen(pid):
     return (pid, fields[19]), (int(fields[11]) + int(fields[12])) / TICKS, crate, kind
 
 
-def look(used):
+def look(used: dict[Any, Any]) -> None:
     """Notes what each process of the prover has used by now."""
     for pid in filter(str.isdigit, os.listdir("/proc")):
         try:
@@ -60,9 +64,9 @@ def look(used):
             used[name] = (seconds, crate, kind)
 
 
-def table_of(used):
+def table_of(used: dict[Any, Any]) -> list[str]:
     """The lines of the table: a row for each crate, the dearest first, and one of all."""
-    sums = collections.defaultdict(collections.Counter)
+    sums: dict[str, collections.Counter[str]] = collections.defaultdict(collections.Counter)
     for seconds, crate, kind in used.values():
         sums[crate][kind] += seconds / 60
         sums["all"][kind] += seconds / 60
@@ -71,7 +75,7 @@ def table_of(used):
             *(f"| {crate} | " + " | ".join(f"{sums[crate][kind]:.1f}" for kind in KINDS) + " |" for crate in rows)]
 
 
-def write(lines, last):
+def write(lines: list[str], last: str) -> None:
     """Puts the table into its page, behind what is said there of any measure."""
     version = subprocess.run(["rt", "version"], stdout=subprocess.PIPE, text=True, check=False).stdout.split("\n")[0]
     said = f"Measured on {datetime.date.today()} on {os.cpu_count()} processors, with `{version}`: {last}."
@@ -81,12 +85,13 @@ def write(lines, last):
         page.write("\n".join([head, "", "## By crate", "", said, "", *lines, ""]))
 
 
-def main():
+def main() -> int:
     words = sys.argv[1:]
     if words not in ([], ["--write"]):
         print(__doc__, file=sys.stderr)
         return 2
-    used, began = {}, time.monotonic()
+    used: dict[Any, Any] = {}
+    began = time.monotonic()
     gate = subprocess.Popen([f"{TOP}/.ci/run"])
     while gate.poll() is None:
         look(used)
@@ -101,4 +106,5 @@ def main():
 
 
 if __name__ == "__main__":
+    usage_if_asked(__doc__)
     sys.exit(main())

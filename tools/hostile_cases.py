@@ -17,6 +17,7 @@ import demo_cases  # noqa: E402
 import elementwise_cases as tables  # noqa: E402
 import rules  # noqa: E402
 from stop_cases import addition, members  # noqa: E402
+from said import usage_if_asked
 
 LOADED = {"name": "c", "data_type": "int32", "shape": [6], "chunk_shape": [4], "elements": [1, 2, 3, 4, 5, 6]}
 PRINTED = "int32 shape [6] chunk [4]\n11 22 33 44 55 66\n"
@@ -192,5 +193,6 @@ def json_edges():
 
 
 if __name__ == "__main__":
+    usage_if_asked(__doc__)
     hostile()
     json_edges()

@@ -12,6 +12,7 @@ worker finds follows from its number. Of four workers each line that may come st
 import sys
 
 import stop_cases as stops
+from said import usage_if_asked
 
 WAITS = range(7)
 
@@ -110,4 +111,5 @@ def main():
 
 
 if __name__ == "__main__":
+    usage_if_asked(__doc__)
     main()

@@ -9,6 +9,7 @@ and the sign alone to the right.
 """
 import json
 import numpy as np
+from said import usage_if_asked
 
 INTEGERS = ["int8", "int16", "int32", "int64", "uint8", "uint16", "uint32", "uint64"]
 ALL = ["bool"] + INTEGERS
@@ -72,4 +73,5 @@ def main():
 
 
 if __name__ == "__main__":
+    usage_if_asked(__doc__)
     main()

@@ -19,6 +19,7 @@ import rules  # noqa: E402
 import stop_cases  # noqa: E402
 from elementwise_cases import expression, inputs_of, line_of, node, stored  # noqa: E402
 from stop_cases import after, reset  # noqa: E402
+from said import usage_if_asked
 
 
 class Parts(stop_cases.Job):
@@ -316,4 +317,5 @@ def main():
 
 
 if __name__ == "__main__":
+    usage_if_asked(__doc__)
     main()

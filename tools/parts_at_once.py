@@ -22,6 +22,8 @@ import sys
 import tempfile
 import time
 
+from zarr_store import Layout
+
 TOP = os.path.dirname(os.path.dirname(os.path.realpath(__file__)))
 EXPRESSIONS = {
     # Three operations: a map, a fold over chunks and rounds of merges.
@@ -39,13 +41,6 @@ WORDS = ["--allowed-mem", "40000", "--split-every", "2"]
 TRIES, EARLY = 400, 21
 
 
-def meta(shape, chunk):
-    return json.dumps({"zarr_format": 3, "node_type": "array", "shape": shape, "data_type": "int32",
-                       "chunk_grid": {"name": "regular", "configuration": {"chunk_shape": chunk}},
-                       "chunk_key_encoding": {"name": "default", "configuration": {"separator": "/"}},
-                       "fill_value": 0, "codecs": [{"name": "bytes", "configuration": {"endian": "little"}}]})
-
-
 def elements(name):
     """Returns the elements of an input, row-major."""
     count = SHAPE[0] * SHAPE[1]
@@ -56,7 +51,7 @@ def store(folder, name):
     """Stores an input, whose chunks are whole rows."""
     os.makedirs(f"{folder}/{name}/c")
     with open(f"{folder}/{name}/zarr.json", "w", encoding="ascii") as out:
-        out.write(meta(SHAPE, CHUNK))
+        out.write(Layout("int32", SHAPE, CHUNK).text())
     told, size = elements(name), CHUNK[0] * CHUNK[1]
     for at in range(SHAPE[0] // CHUNK[0]):
         os.makedirs(f"{folder}/{name}/c/{at}", exist_ok=True)

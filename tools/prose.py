@@ -9,22 +9,25 @@ usage: tools/prose.py [--most N] [--long N] [FILE..]     FILE is each document o
 A paragraph, an item of a list and a cell of a table end a sentence each. A piece of code in a sentence is one word. Blocks of code,
 headings, and cells without a verb's worth of words (fewer than four) aren't counted.
 """
+from __future__ import annotations
+
 import argparse
 import glob
 import os
 import re
 import sys
+from typing import Iterator
 
 TOP = os.path.dirname(os.path.dirname(os.path.realpath(__file__)))
 PAGES = ("*.md", "docs/*.md", "bench/README.md", "compare/README.md", "crates/*/README.md", "python/README.md", "tools/README.md")
 FEWEST = 4
 
 
-def pieces_of(text, has_cells=True):
+def pieces_of(text: str, has_cells: bool = True) -> Iterator[str]:
     """Yields paragraphs, items and, unless they are left out, cells, without code blocks and headings."""
     text = re.sub(r"^(```|~~~).*?^\1", "", text, flags=re.S | re.M)
     text = re.sub(r"<!--.*?-->", "", text, flags=re.S)
-    paragraph = []
+    paragraph: list[str] = []
     for line in text.split("\n") + [""]:
         is_item, is_row = re.match(r"\s*([-*]|\d+\.) ", line), line.lstrip().startswith("|")
         if (not line.strip() or is_item or is_row or line.startswith("#") or line.startswith("    ")) and paragraph:
@@ -36,7 +39,7 @@ def pieces_of(text, has_cells=True):
             paragraph.append(line.strip())
 
 
-def sentences_of(text, has_cells=True):
+def sentences_of(text: str, has_cells: bool = True) -> Iterator[list[str]]:
     """Yields the sentences of a document, each as the list of its words."""
     for piece in pieces_of(text, has_cells):
         plain = re.sub(r"`[^`]*`", "code", piece)
@@ -47,18 +50,18 @@ def sentences_of(text, has_cells=True):
                 yield words
 
 
-def mean_of(sentences):
+def mean_of(sentences: list[list[str]]) -> float:
     return sum(map(len, sentences)) / max(len(sentences), 1)
 
 
-def main():
+def main() -> int:
     parser = argparse.ArgumentParser(description=__doc__, formatter_class=argparse.RawDescriptionHelpFormatter)
     parser.add_argument("--most", type=float, default=20)
     parser.add_argument("--long", type=int)
     parser.add_argument("files", nargs="*")
     given = parser.parse_args()
     files = given.files or [file for page in PAGES for file in sorted(glob.glob(f"{TOP}/{page}"))]
-    worst = 0
+    worst = 0.0
     for file in files:
         with open(file, encoding="utf-8") as text:
             document = text.read()

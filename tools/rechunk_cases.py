@@ -19,6 +19,7 @@ import worker  # noqa: E402
 from elementwise_cases import ADDED, DOUBLED, a_and_b, expression, inputs_of, line_of, metadata_of, node, six, stored  # noqa: E402
 from reduction_cases import DEMO, made_by, reported  # noqa: E402
 from view_cases import AMPLE, counted, number, seen  # noqa: E402
+from said import usage_if_asked
 
 
 def words_of(command, allowed, reserved, split_every):
@@ -465,5 +466,6 @@ def plan_cases():
 
 
 if __name__ == "__main__":
+    usage_if_asked(__doc__)
     tables.write("rechunk.json", rechunk_cases())
     tables.write("plan.json", plan_cases())

@@ -20,6 +20,7 @@ import worker  # noqa: E402
 from elementwise_cases import expression, inputs_of, line_of, node, plan_over, refused, stored  # noqa: E402
 from reductions import FOLDS, PLACES  # noqa: E402
 from view_cases import AMPLE, array_of, counted, number, seen  # noqa: E402
+from said import usage_if_asked
 
 
 DEMO = [node("a", "input", name="demo_a"), node("b", "input", name="demo_b"), node("s", "add", "a", "b"), node("m", "multiply", "s", 2),
@@ -222,4 +223,5 @@ def reduction_cases():
 
 
 if __name__ == "__main__":
+    usage_if_asked(__doc__)
     tables.write("reductions.json", reduction_cases())

@@ -22,6 +22,7 @@ import worker  # noqa: E402
 from elementwise_cases import ADDED, a_and_b, expression, inputs_of, line_of, node  # noqa: E402
 from rechunk_cases import TWO_COPIES, small_grid  # noqa: E402
 from rechunk_cases import tasks_of as copy_tasks  # noqa: E402
+from said import usage_if_asked
 
 
 class Job:
@@ -403,4 +404,5 @@ def main():
 
 
 if __name__ == "__main__":
+    usage_if_asked(__doc__)
     main()

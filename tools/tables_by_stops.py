@@ -14,6 +14,7 @@ import tempfile
 sys.path.insert(0, os.path.dirname(os.path.realpath(__file__)))
 import late_cases  # noqa: E402
 import stop_cases  # noqa: E402
+from said import usage_if_asked
 
 
 def run_table(program, folder, file, parts):
@@ -48,4 +49,5 @@ def main():
 
 
 if __name__ == "__main__":
+    usage_if_asked(__doc__)
     main()

@@ -12,6 +12,7 @@ import os
 import subprocess
 import sys
 import tempfile
+from said import usage_if_asked
 
 TOP = os.path.dirname(os.path.dirname(os.path.realpath(__file__)))
 CRATE = f"{TOP}/crates/test_cases"
@@ -82,4 +83,5 @@ def main():
 
 
 if __name__ == "__main__":
+    usage_if_asked(__doc__)
     main()

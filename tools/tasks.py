@@ -4,15 +4,20 @@ where that can be found out.
 The operations of a plan, their tasks and the chunks that these store are those of compare/rules.py.
 No chunk is read.
 """
+from __future__ import annotations
+
 import contextlib
 import json
 import os
 import re
 import stat
 import sys
+from typing import Any, Callable, Optional
 
 import locks
-from zarr_store import METADATA_BYTES, RECORD_BYTES, Failed, bytes_in
+from said import Failed
+from stdin_text import name_of_text
+from zarr_store import METADATA_BYTES, RECORD_BYTES, Stored, bytes_in
 
 sys.path.append(os.path.join(os.path.dirname(os.path.realpath(__file__)), "..", "compare"))
 import rules  # rules.py, in compare
@@ -30,11 +35,11 @@ class Operation:
     writes.
     """
 
-    def __init__(self, number, step, folders):
+    def __init__(self, number: int, step: Any, folders: list[str]) -> None:
         self.number, self.kind, self.tasks = number, step.kind, step.tasks()
         self.step, self.folders = step, folders
 
-    def done(self):
+    def done(self) -> int:
         """How many of its tasks have stored all of their chunks."""
         held = [coordinates_in(folder, len(array[1]))
                 for folder, array in zip(self.folders, self.step.arrays)]
@@ -51,7 +56,8 @@ class Operation:
 class Tasks:
     """The operations of the plan that makes an array in a folder."""
 
-    def __init__(self, folder, plan):
+    def __init__(self, folder: str, plan: Any) -> None:
+        self.operations: list[Operation]
         self.name, self.operations = plan.expr["store_as"], []
         for k, steps in plan.steps.items():
             for at, step in enumerate(steps):
@@ -60,18 +66,19 @@ class Tasks:
                 self.operations.append(Operation(len(self.operations), step, folders))
         self.count = sum(it.tasks for it in self.operations)
 
-    def done(self):
+    def done(self) -> list[int]:
         """How many tasks of each operation are done."""
         return [it.done() for it in self.operations]
 
 
-def coordinates_in(folder, rank):
+def coordinates_in(folder: str, rank: int) -> set[tuple[int, ...]]:
     """The coordinates of the chunk files of an array of made chunks, of which no other file is one.
     """
-    found, top = set(), os.path.join(folder, "c")
+    found: set[tuple[int, ...]] = set()
+    top = os.path.join(folder, "c")
     if rank == 0:
         return {()} if is_file(top) else found
-    waiting = [(top, ())]
+    waiting: list[tuple[str, tuple[int, ...]]] = [(top, ())]
     while waiting:
         at, place = waiting.pop()
         with contextlib.suppress(OSError):
@@ -86,17 +93,17 @@ def coordinates_in(folder, rank):
     return found
 
 
-def is_file(path):
+def is_file(path: str) -> bool:
     try:
         return stat.S_ISREG(os.stat(path).st_mode)
     except OSError:
         return False
 
 
-def of_text(folder, data, allowed=rules.DEFAULT, reserved=0, split_every=rules.SPLIT_EVERY,
-            fusion=1, held=None):
+def of_text(folder: str, data: bytes, allowed: int = rules.DEFAULT, reserved: int = 0, split_every: int = rules.SPLIT_EVERY,
+            fusion: int = 1, *, held: Optional[Callable[[str], Optional[bytes]]] = None) -> Optional[Tasks]:
     """The tasks of the plan of a text over a folder, or nothing where it has none."""
-    def held_here(key):
+    def held_here(key: str) -> Optional[bytes]:
         try:
             return bytes_in(os.path.join(folder, key), METADATA_BYTES)
         except (OSError, Failed):
@@ -109,7 +116,7 @@ def of_text(folder, data, allowed=rules.DEFAULT, reserved=0, split_every=rules.S
         return None
 
 
-def of_record(stored):
+def of_record(stored: Stored) -> Optional[Tasks]:
     """The tasks of the plan whose record is stored for an array, or nothing where the record isn't
     there or isn't one.
     """
@@ -118,20 +125,20 @@ def of_record(stored):
         metas = {f"{name}/zarr.json": json.dumps(value).encode()
                  for name, value in record["inputs"].items()}
         data = json.dumps(record["expr"], ensure_ascii=False, separators=(",", ":")).encode("utf-8")
-        numbers = [record[name] for name in ("allowed", "reserved", "split_every", "cubed")]
+        numbers: list[int] = [record[name] for name in ("allowed", "reserved", "split_every", "cubed")]
     except (OSError, Failed, ValueError, KeyError, TypeError, AttributeError, RecursionError):
         return None
     if not all(type(number) is int and 0 <= number <= 2**40
                for number in numbers) or not 2 <= numbers[2] <= 64 or numbers[3] not in VERSIONS:
         return None
-    *numbers, version = numbers
-    found = of_text(stored.folder, data, *numbers, VERSIONS[version], held=metas.get)
+    allowed, reserved, split_every, version = numbers
+    found = of_text(stored.folder, data, allowed, reserved, split_every, VERSIONS[version], held=metas.get)
     return found if found and found.name == stored.name else None
 
 
 # Whether a run is at work
 
-def words_of(process):
+def words_of(process: str) -> list[bytes]:
     """The words of a process, or none where it has ended or isn't shown."""
     try:
         with open(f"/proc/{process}/cmdline", "rb") as file:
@@ -140,16 +147,7 @@ def words_of(process):
         return []
 
 
-def name_of_text(data):
-    """The name under which a text stores its array, or nothing."""
-    try:
-        value = json.loads(data.decode("utf-8"))
-        return value.get("store_as", value.get("name"))
-    except (ValueError, AttributeError, RecursionError):
-        return None
-
-
-def name_at(process, words):
+def name_at(process: str, words: list[bytes]) -> Any:
     """The name of the array that a process of the program makes, or nothing where it can't be found
     out.
     """
@@ -164,11 +162,11 @@ def name_at(process, words):
         return None
 
 
-def at_work_in(folder):
+def at_work_in(folder: str) -> dict[int, Any]:
     """The processes of the program that are at work in a folder of this machine: the name that each
     makes, or nothing, by its number.
     """
-    found = {}
+    found: dict[int, Any] = {}
     try:
         own, processes = os.stat(folder), [entry for entry in os.listdir("/proc")
                                            if entry.isdecimal()]
@@ -185,11 +183,11 @@ def at_work_in(folder):
     return found
 
 
-def is_at_work(folder, name, processes):
+def is_at_work(folder: str, name: str, processes: dict[int, Any]) -> bool:
     """Whether a run of an array is at work for sure: its lock is held, or a process makes it."""
     return locks.is_held(folder, name) or name in processes.values()
 
 
-def is_chunk_of_plan(name):
+def is_chunk_of_plan(name: str) -> bool:
     """Whether this is the name of a chunk in between, below the folder of a plan."""
     return re.match(r"(0|[1-9][0-9]{0,5})/c(/(0|[1-9][0-9]{0,4})){0,6}\Z", name) is not None

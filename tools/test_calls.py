@@ -251,7 +251,8 @@ class Load(WithProgram):
         self.assertRegex(second.stderr.decode(), r"^cubed: c is being computed or stored by process \d+, since "
                                                  r"[-: \d]+: wait until it has ended, and call again\n$")
         self.assertEqual(other.returncode, 0)
-        self.assertEqual(files_in(self.top), ["begun", "go"])
+        # (the lock's file stays: the program itself holds the lock, and no script is there at its end)
+        self.assertEqual(files_in(self.top), [".locks/c", "begun", "go"])
 
     def test_the_lock_is_that_of_the_package(self):
         self.program("cat >/dev/null; echo ok")

@@ -16,6 +16,7 @@ import sys
 import tempfile
 import time
 import unittest
+from said import usage_if_asked
 
 TOP = os.path.dirname(os.path.dirname(os.path.realpath(__file__)))
 PROGRAM = f"{TOP}/crates/cu_bin/out/cu_bin"
@@ -395,6 +396,7 @@ class FailingCalls(InFolder):
 
 
 if __name__ == "__main__":
+    usage_if_asked(__doc__)
     if sys.argv[1:2] == ["--program"]:
         PROGRAM = os.path.abspath(sys.argv[2])
         del sys.argv[1:3]

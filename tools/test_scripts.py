@@ -10,6 +10,7 @@ contract, test_hostile.py those of strange folders, and test_loops.py that of th
 import array
 import concurrent.futures
 import contextlib
+import hashlib
 import io
 import itertools
 import json
@@ -17,20 +18,27 @@ import math
 import os
 import random
 import re
+import runpy
 import shutil
 import sys
+import tempfile
 import time
 import unittest
+import unittest.mock
+import zipfile
 
 sys.dont_write_bytecode = True
-from test_base import TOP, InFolder, files_in, put, rules, run
+from test_base import TOP, InFolder, files_in, put, rules, run, wait_until
 from test_calls import *  # noqa: F403
 from test_contract import *  # noqa: F403
 from test_documents import *  # noqa: F403
 from test_hostile import *  # noqa: F403
+from test_locks import *  # noqa: F403
 from test_loops import *  # noqa: F403
+from test_manual import *  # noqa: F403
 import folder as folder_commands
-import transcripts
+import prove
+import shipped
 import variant_files
 import word_cases
 from zarr_store import TYPES, Layout, item_bytes
@@ -277,30 +285,111 @@ class Months(InFolder):
 
 
 class Archive(InFolder):
-    """What tools/archive copies beside the program."""
+    """What tools/archive makes of a program. The program of these tests is a script."""
 
-    COPIED = re.compile(r'\(cd "\$top/(tools|compare)" && cp (.*?) "\$room')
+    PROGRAM = b'#!/bin/sh\n# as if it were linked with GLIBC_2.17 and GLIBC_2.9\necho "$@"\n'
 
-    def copied(self):
-        with open(f"{TOP}/tools/archive", encoding="utf-8") as script:
-            return {place: names.split() for place, names in self.COPIED.findall(script.read())}
+    def setUp(self):
+        super().setUp()
+        put(f"{self.room}/program", self.PROGRAM)
+        self.made = runpy.run_path(f"{TOP}/tools/archive")
+        self.dist = f"{self.room}/dist"
+        os.mkdir(self.dist)
+
+    def pack(self, *kinds):
+        return self.made["pack"](self.dist, {kind: f"{self.room}/program" for kind in kinds})
 
     def test_each_script_finds_what_it_imports(self):
-        copied = self.copied()
-        self.assertEqual(sorted(copied), ["compare", "tools"])
-        for place, names in copied.items():
-            os.makedirs(f"{self.room}/alone/{place}")
-            for name in names:
-                shutil.copy(f"{TOP}/{place}/{name}", f"{self.room}/alone/{place}/{name}")
-        modules = [name[:-3] for names in copied.values() for name in names if name.endswith(".py")]
+        os.mkdir(f"{self.room}/alone")
+        shipped.put_scripts(f"{self.room}/alone")
+        modules = [name[:-3] for names in shipped.SHIPPED.values() for name in names if name.endswith(".py")]
         self.assertGreater(len(modules), 8)
-        places = [f"{self.room}/alone/{place}" for place in copied]
+        places = [f"{self.room}/alone/{place}" for place in shipped.SHIPPED]
         ended = run(sys.executable, "-c", f"import sys; sys.path[:0] = {places!r}; import {', '.join(modules)}")
         self.assertEqual((ended.returncode, ended.stderr.decode()), (0, ""))
 
-    def test_the_transcripts_have_the_same(self):
-        copied = self.copied()
-        self.assertEqual((list(transcripts.TOOLS), list(transcripts.RULES)), (copied["tools"], copied["compare"]))
+    def test_it_runs_where_it_is_unpacked_and_says_what_it_is(self):
+        names = self.pack("x86-64-v2", "x86-64-v3")
+        self.assertEqual([name for name in names if "v2" in name and "v3" not in name], names[:2])
+        shutil.unpack_archive(f"{self.dist}/{names[0]}", self.room, filter="data") if sys.version_info >= (3, 12) \
+            else shutil.unpack_archive(f"{self.dist}/{names[0]}", self.room)
+        script = f"{self.room}/cubed/cubed"
+        told = run(script, "--version").stdout.decode()
+        for part in ("for x86-64-v2", "SSE4.2", "the C library 2.17 or", hashlib.sha256(self.PROGRAM).hexdigest()):
+            self.assertIn(part, told)
+        self.assertEqual(run(script, self.top, "print", "y").stdout.decode(), f"{self.top} print y\n")
+        self.assertTrue(run(script, "help").stdout.startswith(b"cubed DIR COMMAND"))
+        self.assertIn(b"cause: ", run(script, "explain", "14").stdout)
+
+    def test_the_checksums_are_those_of_the_files_and_come_again(self):
+        names = self.pack("x86-64-v2")
+        with open(f"{self.dist}/SHA256SUMS", encoding="ascii") as file:
+            said = file.read()
+        for name in names:
+            with open(f"{self.dist}/{name}", "rb") as file:
+                self.assertIn(f"{hashlib.sha256(file.read()).hexdigest()}  {name}\n", said)
+        time.sleep(1.1)
+        self.pack("x86-64-v2")
+        with open(f"{self.dist}/SHA256SUMS", encoding="ascii") as file:
+            self.assertEqual(file.read(), said)
+
+    def test_the_wheel_is_one_of_its_platform_with_the_program(self):
+        name = self.pack("x86-64-v3")[1]
+        self.assertRegex(name, r"^cengmoat-[0-9.]+-3_x86_64_v3-py3-none-manylinux_2_17_x86_64\.whl$")
+        with zipfile.ZipFile(f"{self.dist}/{name}") as wheel:
+            self.assertEqual(wheel.read("cengmoat/cubed"), self.PROGRAM)
+            self.assertTrue(wheel.getinfo("cengmoat/cubed").external_attr >> 16 & 0o100)
+            self.assertIn(b"AVX2", wheel.read("cengmoat/PROVED.txt"))
+            rows = wheel.read(next(it for it in wheel.namelist() if it.endswith("RECORD"))).decode()
+            self.assertEqual({row.split(",")[0] for row in rows.split()}, set(wheel.namelist()))
+
+
+    def test_without_a_program_the_version_says_so(self):
+        """pip shows nothing else of a build: its last line is `Successfully installed cengmoat-0.1.0+without.program`."""
+        backend = runpy.run_path(f"{TOP}/python/backend.py")
+        for program, wanted in ((None, r"^cengmoat-[0-9.]+\+without\.program-py3-none-any\.whl$"),
+                                (f"{self.room}/program", r"^cengmoat-[0-9.]+-py3-none-linux_\w+\.whl$")):
+            backend["build_wheel"].__globals__["_program"] = lambda program=program: program
+            name = backend["build_wheel"](self.dist)
+            self.assertRegex(name, wanted)
+            with zipfile.ZipFile(f"{self.dist}/{name}") as wheel:
+                told = wheel.read(next(it for it in wheel.namelist() if it.endswith("METADATA"))).decode()
+                self.assertEqual("cengmoat/cubed" in wheel.namelist(), program is not None)
+            self.assertEqual("+without.program" in told.split("\n")[2], program is None)
+
+
+class Proving(InFolder):
+    """What tools/prove.py shows while it proves."""
+
+    def test_it_shows_how_far_it_is_and_guesses_what_is_left(self):
+        room = unittest.mock.Mock(lines={"cu_text": "", "cu_shape": "", "cu_codec": ""})
+        with unittest.mock.patch.object(prove, "PROGRESS", f"{self.room}/progress"), \
+                unittest.mock.patch.object(prove, "bytes_of", {"cu_text": 100, "cu_shape": 100, "cu_codec": 200}.get):
+            work = prove.Work(room, 1)
+            work.show()
+            self.assertRegex(self.line(), r"^0 of 3 crates are proved, \d+ s gone$")
+            work.began -= 600
+            work.kept.add("cu_text")
+            work.note("cu_text")
+            # What is kept took no time, so it says nothing of what is left.
+            self.assertEqual(self.line(), "1 of 3 crates are proved, 10 min gone")
+            work.note("cu_shape")
+            self.assertEqual(self.line(), "2 of 3 crates are proved, 10 min gone, about 20 min left")
+            work.note("cu_codec")
+            self.assertRegex(self.line(), r"^3 of 3 crates are proved, 10 min gone, the program itself")
+
+    def line(self):
+        with open(f"{self.room}/progress", encoding="utf-8") as file:
+            return file.read().strip()
+
+    def test_the_file_is_kept_new_while_a_crate_is_proved(self):
+        room = unittest.mock.Mock(lines={"cu_text": ""})
+        with unittest.mock.patch.object(prove, "PROGRESS", f"{self.room}/progress"), \
+                unittest.mock.patch.object(prove, "EVERY", 0.05), prove.Work(room, 1) as work:
+            work.began -= 600
+            self.assertTrue(wait_until(lambda: os.path.exists(f"{self.room}/progress") and "10 min gone" in self.line()))
+            work.began -= 60
+            self.assertTrue(wait_until(lambda: "11 min gone" in self.line()))
 
 
 class VariantFiles(InFolder):
@@ -371,6 +460,22 @@ class Help(unittest.TestCase):
         # That of the script itself.
         self.assertEqual(told.pop("progress"), (0, 1, 0, ["resume", "run"]))
         self.assertEqual(told, table)
+
+
+class Types(unittest.TestCase):
+    """The types of the scripts that users call, and of what measures share, as mypy.ini of each folder lists them."""
+
+    @unittest.skipIf(shutil.which("mypy") is None, "mypy isn't there")
+    def test_the_types_are_right(self):
+        with tempfile.TemporaryDirectory() as cache:
+            for place in ("tools", "bench"):
+                ended = run("mypy", "--cache-dir", f"{cache}/{place}", cwd=f"{TOP}/{place}", seconds=600)
+                self.assertEqual(ended.returncode, 0, ended.stdout.decode())
+
+    def test_each_script_of_an_archive_is_among_them(self):
+        with open(f"{TOP}/tools/mypy.ini", encoding="utf-8") as file:
+            listed = re.split(r"[,\s]+", file.read().partition("files = ")[2].partition("\n#")[0].strip())
+        self.assertLessEqual(set(shipped.SHIPPED["tools"]), set(listed))
 
 
 class Explain(unittest.TestCase):

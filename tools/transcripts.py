@@ -14,6 +14,8 @@ one page run one after another in one new folder, which is laid out as an archiv
 - each operator's example in the table of docs/OPERATORS.md must be accepted by `plan`.
 What needs a module that isn't there is left out, and a line says so.
 """
+from __future__ import annotations
+
 import argparse
 import glob
 import json
@@ -23,23 +25,23 @@ import shutil
 import subprocess
 import sys
 import tempfile
+from typing import Iterator
+
+import shipped  # shipped.py, in this folder
 
 TOP = os.path.dirname(os.path.dirname(os.path.realpath(__file__)))
-# As tools/archive has them.
-TOOLS = ("zarr", "zarr_store.py", "folder.py", "tasks.py", "locks.py", "words.py", "call.py", "explain.py")
-RULES = ("rules.py", "copies.py", "inlined.py", "limits.py", "operators.py", "reductions.py")
 # The nodes before the example of an operator, and the arrays that they want.
 LOADED = ("elementwise/t", "elementwise/o", "rechunk/m")
 BEFORE = [{"id": "t", "op": "input", "name": "t"}, {"id": "o", "op": "input", "name": "o"}, {"id": "m", "op": "input", "name": "m"},
           {"id": "c", "op": "greater", "args": ["t", 0]}, {"id": "d", "op": "less", "args": ["t", 5]}]
 
 
-def blocks_of(text):
+def blocks_of(text: str) -> Iterator[tuple[str, str]]:
     """Yields each block between ``` lines with its language."""
     yield from re.findall(r"^```(\w*)\n(.*?)^```", text, re.S | re.M)
 
 
-def commands_of(text):
+def commands_of(text: str) -> Iterator[tuple[str, str]]:
     """Yields each command with what it must print."""
     for language, block in blocks_of(text):
         for part in re.split(r"^\$ ", block, flags=re.M)[1:] if language == "" else []:
@@ -47,7 +49,7 @@ def commands_of(text):
             yield command, printed.strip()
 
 
-def spans_of(text):
+def spans_of(text: str) -> Iterator[str]:
     """Yields each piece of a sentence that is a whole command."""
     outside = re.sub(r"^```.*?^```", "", text, flags=re.S | re.M)
     for span in re.findall(r"`([^`\n]+)`", outside):
@@ -58,13 +60,16 @@ def spans_of(text):
 class Page:
     """A page of the documents and the folder in which its commands run."""
 
-    def __init__(self, file, given):
+    def __init__(self, file: str, given: argparse.Namespace) -> None:
         self.file, self.python, self.program = file, given.python, given.program
-        self.count, self.wrong, self.left_out, self.printed = 0, [], [], []
+        self.count = 0
+        self.wrong: list[str] = []
+        self.left_out: list[str] = []
+        self.printed: list[tuple[str, str, str]] = []
         with open(file, encoding="utf-8") as text:
             self.text = text.read()
 
-    def run(self):
+    def run(self) -> None:
         with tempfile.TemporaryDirectory(prefix="cubed-transcripts-") as folder:
             self.folder = folder
             lay_out(folder, self.program, self.python)
@@ -76,14 +81,14 @@ class Page:
             commands = [command for command, _ in commands_of(self.text)]
             self.wrong += [f"{self.file}: `{span}` isn't run" for span in spans_of(self.text) if not any(span in command for command in commands)]
 
-    def lacks(self, code):
+    def lacks(self, code: str) -> list[str]:
         """The modules of this code that aren't there."""
         names = re.findall(r"[\w.]+", " ".join(re.findall(r"^import (.*)", code, re.M)))
         if code.startswith("# needs "):
             names += code.partition("\n")[0].split()[2:]
         return [name for name in names if subprocess.run([self.python, "-c", f"import {name}"], cwd=self.folder, env=self.environment, capture_output=True, check=False).returncode]
 
-    def run_commands(self):
+    def run_commands(self) -> None:
         status = 0
         for command, printed in commands_of(self.text):
             word, _, name = command.partition(" ")
@@ -104,7 +109,7 @@ class Page:
                 self.wrong.append(f"{self.file}: $ {command}\n{ended.stdout.strip()}\nand must print\n{printed}")
                 self.printed.append((command, printed, ended.stdout.strip()))
 
-    def write(self):
+    def write(self) -> None:
         """Puts what was printed into the page."""
         for command, told, printed in self.printed:
             old, new = (f"$ {command}\n" + (f"{text}\n" if text else "") for text in (told, printed))
@@ -113,7 +118,7 @@ class Page:
             with open(self.file, "w", encoding="utf-8") as text:
                 text.write(self.text)
 
-    def run_python(self):
+    def run_python(self) -> None:
         for language, block in blocks_of(self.text):
             if language != "python" or not (block.startswith("# needs ") or re.search(r"^import cengmoat", block, re.M)):
                 continue
@@ -126,7 +131,7 @@ class Page:
             if ended.returncode:
                 self.wrong.append(f"{self.file}: a block of Python\n{ended.stdout}")
 
-    def run_examples(self):
+    def run_examples(self) -> None:
         """Asks for the plan of each operator's example in a table whose first column is `op`."""
         inside = False
         for line in self.text.split("\n"):
@@ -138,41 +143,38 @@ class Page:
             for name in names:
                 self.run_example(name, example.replace(f'"op":"{names[0]}"', f'"op":"{name}"'))
 
-    def run_example(self, name, example):
+    def run_example(self, name: str, example: str) -> None:
         if not os.path.exists(f"{self.folder}/given/m"):
             for file in LOADED:
                 self.call(["load"], f"{TOP}/examples/{file}.json")
         node = json.loads(example)
-        with open(f"{self.folder}/example.json", "w", encoding="utf-8") as file:
-            json.dump({"nodes": BEFORE + [node], "out": node["id"], "store_as": "example"}, file)
+        with open(f"{self.folder}/example.json", "w", encoding="utf-8") as text:
+            json.dump({"nodes": BEFORE + [node], "out": node["id"], "store_as": "example"}, text)
         ended = self.call(["plan"], f"{self.folder}/example.json")
         self.count += 1
         if ended.returncode or node["op"] != name:
             self.wrong.append(f"{self.file}: the example of {name}: {example}\n{ended.stdout.strip()}")
 
-    def call(self, words, path):
+    def call(self, words: list[str], path: str) -> subprocess.CompletedProcess[str]:
         with open(path, encoding="utf-8") as text:
             return subprocess.run([f"{self.folder}/program/cubed", f"{self.folder}/given", *words], stdin=text, stdout=subprocess.PIPE, stderr=subprocess.STDOUT, text=True, check=False)
 
 
-def lay_out(folder, program, python):
+def lay_out(folder: str, program: str, python: str) -> None:
     """Makes the folder what an archive of the program is, with `python3` as the one that is given."""
     for name in ("examples", "docs", "python"):
         if os.path.isdir(f"{TOP}/{name}"):
             shutil.copytree(f"{TOP}/{name}", f"{folder}/{name}")
-    for name in ("tools", "compare", "program", "bin"):
+    for name in ("program", "bin"):
         os.mkdir(f"{folder}/{name}")
-    for place, names in (("tools", TOOLS), ("compare", RULES)):
-        for name in names:
-            shutil.copy(f"{TOP}/{place}/{name}", f"{folder}/{place}/{name}")
-    shutil.copy(f"{TOP}/cubed", f"{folder}/cubed")
+    shipped.put_scripts(folder)
     shutil.copy(program, f"{folder}/program/cubed")
     with open(f"{folder}/bin/python3", "w", encoding="ascii") as file:
         file.write(f'#!/bin/sh\nexec "{python}" "$@"\n')
     os.chmod(f"{folder}/bin/python3", 0o755)
 
 
-def with_numpy():
+def with_numpy() -> str:
     """A Python that has NumPy, or this one."""
     for python in (sys.executable, "/usr/bin/python3"):
         if os.path.exists(python) and subprocess.run([python, "-c", "import numpy"], capture_output=True, check=False).returncode == 0:
@@ -180,7 +182,7 @@ def with_numpy():
     return sys.executable
 
 
-def main():
+def main() -> int:
     words = argparse.ArgumentParser(description=__doc__, formatter_class=argparse.RawDescriptionHelpFormatter)
     words.add_argument("--program", default=f"{TOP}/crates/cu_bin/out/cu_bin")
     words.add_argument("--python", default=with_numpy())

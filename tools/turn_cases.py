@@ -16,6 +16,7 @@ sys.path.insert(0, f"{TOP}/compare")
 sys.path.insert(0, f"{TOP}/tools")
 import rules  # noqa: E402
 from elementwise_cases import node  # noqa: E402
+from said import usage_if_asked
 
 AMPLE = 200_000_000
 
@@ -444,4 +445,5 @@ def main():
 
 
 if __name__ == "__main__":
+    usage_if_asked(__doc__)
     main()

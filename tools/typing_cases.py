@@ -10,6 +10,7 @@ import itertools
 import json
 
 import numpy as np
+from said import usage_if_asked
 
 CASES = []
 
@@ -668,4 +669,5 @@ def main():
 
 
 if __name__ == "__main__":
+    usage_if_asked(__doc__)
     main()

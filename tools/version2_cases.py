@@ -14,6 +14,7 @@ sys.path.insert(0, f"{TOP}/compare")
 import rules  # noqa: E402
 from rules import Array, compact  # noqa: E402
 from zarray_cases import BASE, said, without  # noqa: E402
+from said import usage_if_asked
 
 X0, X1 = {"hex": "0102 fffe"}, {"hex": "0003 fffd"}
 WRITTEN = Array("int16", [4], [2], -1, "big", "v2", ".").written()
@@ -155,4 +156,5 @@ def main():
 
 
 if __name__ == "__main__":
+    usage_if_asked(__doc__)
     main()

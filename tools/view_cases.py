@@ -18,6 +18,7 @@ import elementwise_cases as tables  # noqa: E402
 import rules  # noqa: E402
 import worker  # noqa: E402
 from elementwise_cases import expression, inputs_of, line_of, node, plan_over, refused, stored  # noqa: E402
+from said import usage_if_asked
 
 AMPLE = 200000000
 
@@ -259,4 +260,5 @@ def view_cases():
 
 
 if __name__ == "__main__":
+    usage_if_asked(__doc__)
     tables.write("views.json", view_cases())

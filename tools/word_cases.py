@@ -11,20 +11,11 @@ import json
 import re
 import sys
 
-# Each option: the least and the most number, the number where it isn't given (None: it must be), and the commands that take it.
-OPTIONS = {
-    "allowed-mem": (0, 2**40, 200_000_000, ("plan", "run", "begin", "part", "resume", "drop", "demo")),
-    "reserved-mem": (0, 2**40, 0, ("plan", "run", "begin", "part", "resume", "drop", "demo")),
-    "split-every": (2, 64, 4, ("plan", "run", "begin", "part", "resume", "drop", "demo")),
-    "fusion": (1, 2, 1, ("plan", "run", "begin", "part", "resume", "drop", "demo")),
-    "workers": (1, 64, 1, ("run", "resume", "demo")),
-    "retries": (0, 8, 2, ("run", "begin", "part", "resume", "drop", "load", "check", "print", "demo")),
-    "backups": (0, 1, 0, ("run", "resume", "demo")),
-    "sync": (0, 1, 1, ("run", "begin", "part", "resume", "load", "demo")),
-    "op": (0, 2**64 - 1, None, ("part",)),
-    "from": (0, 2**64 - 1, None, ("part",)),
-    "to": (0, 2**64 - 1, None, ("part",)),
-}
+import options
+from said import usage_if_asked
+
+# Those of the program.
+OPTIONS = {name: option for name, option in options.OPTIONS.items() if name not in options.OF_SCRIPT}
 ACCEPTED = {
     "run": "error 3 code=1 node=0",
     "begin": "error 3 code=1 node=0",
@@ -62,17 +53,17 @@ def parts(words):
 def is_accepted(command, given):
     names = [name for name, value in given]
     for name, value in given:
-        if name not in OPTIONS or command not in OPTIONS[name][3] or names.count(name) > 1:
+        if name not in OPTIONS or command not in OPTIONS[name].takers or names.count(name) > 1:
             return False
-        least, most = OPTIONS[name][:2]
+        least, most = OPTIONS[name].least, OPTIONS[name].most
         if value is None or not NUMBER.match(value) or not least <= int(value) <= most:
             return False
-    return all(name in names for name, (_, _, default, takers) in OPTIONS.items() if default is None and command in takers)
+    return all(name in names for name, option in OPTIONS.items() if option.default is None and command in option.takers)
 
 
 def required(command, but=()):
     """Returns the options that a command must have, but for these."""
-    return [f"--{name}=1" for name, (_, _, default, takers) in OPTIONS.items() if default is None and command in takers and name not in but]
+    return [f"--{name}=1" for name, option in OPTIONS.items() if option.default is None and command in option.takers and name not in but]
 
 
 def answer(words):
@@ -97,7 +88,7 @@ def demo_answer(found):
     if not NUMBER.match(size) or not 1 <= int(size) <= 2048:
         return "error 2 code=2"
     told = {name: int(value) for name, value in given}
-    allowed, reserved = (told.get(name, OPTIONS[name][2]) for name in ("allowed-mem", "reserved-mem"))
+    allowed, reserved = (told.get(name, OPTIONS[name].default) for name in ("allowed-mem", "reserved-mem"))
     assert reserved > allowed, "this case would run"
     return f"error 5 node=0 need={reserved} allowed={allowed}"
 
@@ -118,7 +109,7 @@ def commands():
 
 def ends():
     """Each option of each command at the ends of its range, and beyond them; and the options that a command doesn't take."""
-    for name, (least, most, _, takers) in OPTIONS.items():
+    for name, (least, most, _, takers, *_) in OPTIONS.items():
         rows = []
         for command in (*ACCEPTED, "print"):
             front = [command, "y"] if command == "print" else [command, *required(command, (name,))]
@@ -189,7 +180,7 @@ def demonstrations():
         ["demo", *words] for words in ([much, "4"], ["4", much], [much, "--", "4"], ["4", much, "--"], [much], ["4", "4", much], ["--", "4", much], ["4", much, "--", "4"], ["4", much, much])]
     yield "the options of a demonstration", [
         ["demo", "4", *([] if name == "reserved-mem" else [much]), *form]
-        for name, (least, most, _, takers) in OPTIONS.items() if "demo" in takers
+        for name, (least, most, _, takers, *_) in OPTIONS.items() if "demo" in takers
         for value in dict.fromkeys((*([] if name == "reserved-mem" else [least]), *([] if name == "allowed-mem" else [most]), most + 1))
         for form in both(name, str(value))]
 
@@ -210,4 +201,5 @@ def main(over_folder):
 
 
 if __name__ == "__main__":
+    usage_if_asked(__doc__)
     main(sys.argv[1:] == ["resume"])

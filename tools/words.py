@@ -6,36 +6,21 @@ usage: tools/words.py DIR COMMAND WORDS..     prints the answer and what is wron
 
 `--progress N` is the script's own, and the program doesn't get it.
 """
+from __future__ import annotations
+
 import difflib
 import re
 import sys
+from typing import Iterable, Optional
 
-from zarr_store import NAME, shown
+from options import COMMANDS, OPTIONS, OTHERS, options_of
+from said import shown, usage_if_asked
+from stdin_text import NAME
 
-PLANS = ("plan", "run", "begin", "part", "resume", "drop", "demo")
-# Each option: the least and the most number, the number where it isn't given, and the commands that
-# take it.
-OPTIONS = {
-    "allowed-mem": (0, 2**40, 200_000_000, PLANS),
-    "reserved-mem": (0, 2**40, 0, PLANS),
-    "split-every": (2, 64, 4, PLANS),
-    "fusion": (1, 2, 1, PLANS),
-    "workers": (1, 64, 1, ("run", "resume", "demo")),
-    "retries": (0, 8, 2, ("run", "begin", "part", "resume", "drop", "load", "check", "print", "demo")),
-    "backups": (0, 1, 0, ("run", "resume", "demo")),
-    "sync": (0, 1, 1, ("run", "begin", "part", "resume", "load", "demo")),
-    "op": (0, 2**64 - 1, None, ("part",)),
-    "from": (0, 2**64 - 1, None, ("part",)),
-    "to": (0, 2**64 - 1, None, ("part",)),
-    "progress": (0, 1, 0, ("run", "resume")),
-}
-COMMANDS = ("run", "begin", "part", "resume", "drop", "plan", "load", "check", "print", "demo")
-# The script's own commands, which aren't the program's.
-OTHERS = ("status", "remove", "explain")
 # What stands behind an option's name alone.
 POSITIONAL = {"print": "the name of an array", "demo": "a size from 1 to 2048"}
 # Options that a command must have: they have no number where they aren't given.
-REQUIRED = {"part": [name for name, row in OPTIONS.items() if row[2] is None]}
+REQUIRED = {"part": [name for name, row in OPTIONS.items() if row.default is None]}
 NUMBER = re.compile(r"\+?[0-9]+\Z", re.ASCII)
 UNITS = {"": 1, "k": 10**3, "m": 10**6, "g": 10**9, "t": 10**12, "ki": 2**10, "mi": 2**20,
          "gi": 2**30, "ti": 2**40}
@@ -45,18 +30,18 @@ SIZE = re.compile(r"([0-9]{1,15})(?:[.]([0-9]{1,6}))? ?([kmgt]i?|)b?\Z", re.IGNO
 class Wrong(Exception):
     """A word isn't accepted: the code of the answer, and what is wrong."""
 
-    def __init__(self, code, told):
+    def __init__(self, code: int, told: str) -> None:
         super().__init__(told)
         self.code, self.told = code, told
 
 
-def near(word, names):
+def near(word: str, names: Iterable[str]) -> str:
     """What to say of the names that a wrong one is near to."""
     found = difflib.get_close_matches(word.lower(), list(names), 3, 0.6) if len(word) < 100 else []
     return f" (near: {', '.join(found)})" if found else ""
 
 
-def bytes_text(text):
+def bytes_text(text: str) -> str:
     """A size such as 64MiB in bytes, or nothing."""
     found = SIZE.match(text)
     if not found or not found[3] and not found[2] and text.isdigit():
@@ -65,12 +50,12 @@ def bytes_text(text):
     return f" ({int(found[1] + digits) * scale // 10**len(digits)} bytes)"
 
 
-def value_of(text):
+def value_of(text: str) -> int:
     """The number that a word of digits is. One that is above every range has fewer digits here."""
     return int(text.lstrip("+0")[:30] or "0")
 
 
-def is_text(word):
+def is_text(word: str) -> bool:
     try:
         word.encode("utf-8")
     except UnicodeEncodeError:
@@ -78,10 +63,11 @@ def is_text(word):
     return True
 
 
-def parts(words):
+def parts(words: list[str]) -> tuple[list[tuple[str, Optional[str]]], list[str]]:
     """The pairs of an option and its value, and the other words, in their order."""
     end = words.index("--") if "--" in words else len(words)
-    given, others, rest = [], [], iter(words[:end])
+    given: list[tuple[str, Optional[str]]] = []
+    others, rest = [], iter(words[:end])
     for word in rest:
         if word == "-" or not word.startswith("-"):
             others.append(word)
@@ -89,13 +75,14 @@ def parts(words):
             raise Wrong(2,
                         f"{shown(word)} isn't an option: an option is written whole, as --workers 4")
         elif "=" in word:
-            given.append(tuple(word[2:].split("=", 1)))
+            name, _, value = word[2:].partition("=")
+            given.append((name, value))
         else:
             given.append((word[2:], next(rest, None)))
     return given, others + words[end + 1:]
 
 
-def number(name, value, least, most):
+def number(name: str, value: Optional[str], least: int, most: int) -> int:
     """The number that an option has."""
     told = f"--{name} takes a whole number from {least} to {most}"
     if value is None:
@@ -107,10 +94,10 @@ def number(name, value, least, most):
     return value_of(value)
 
 
-def options(command, given):
+def options(command: str, given: list[tuple[str, Optional[str]]]) -> dict[str, int]:
     """The numbers of the options of a command, by their names."""
     found = {}
-    own = [name for name, row in OPTIONS.items() if command in row[3]]
+    own = list(options_of(command))
     for name, value in given:
         if name not in OPTIONS:
             raise Wrong(2, f"there is no option --{shown(name)}{near(name, own)}")
@@ -119,14 +106,14 @@ def options(command, given):
                         f"{command} has no option --{name}; it has {', '.join(f'--{it}' for it in own)}")
         if name in found:
             raise Wrong(2, f"--{name} stands twice")
-        found[name] = number(name, value, *OPTIONS[name][:2])
+        found[name] = number(name, value, OPTIONS[name].least, OPTIONS[name].most)
     for name in REQUIRED.get(command, ()):
         if name not in found:
             raise Wrong(2, f"{command} wants --{name}")
     return found
 
 
-def read(folder, command=None, *words):
+def read(folder: str, command: Optional[str] = None, *words: str) -> tuple[dict[str, int], list[str]]:
     """The options and the other words of a call, or what is wrong with it."""
     if not all(map(is_text, filter(None, (folder, command, *words)))):
         raise Wrong(1 if command is None or not is_text(command) else 2, "a word isn't UTF-8")
@@ -135,7 +122,7 @@ def read(folder, command=None, *words):
             raise Wrong(1, f"the folder comes first: cubed DIR {folder}")
         told = "no command is given" if command is None else f"{shown(command) or 'an empty word'} isn't a command"
         raise Wrong(1,
-                    f"{told}{near(command or '', COMMANDS + OTHERS)}; the commands are {', '.join(COMMANDS + OTHERS)}")
+                    f"{told}{near(command or '', [*COMMANDS, *OTHERS])}; the commands are {', '.join([*COMMANDS, *OTHERS])}")
     given, others = parts(list(words))
     found = options(command, given)
     wanted = POSITIONAL.get(command)
@@ -151,12 +138,12 @@ def read(folder, command=None, *words):
     return found, others
 
 
-def number_of_demo(word):
+def number_of_demo(word: str) -> None:
     if not NUMBER.match(word) or not 1 <= value_of(word) <= 2048:
         raise Wrong(2, f"demo wants {POSITIONAL['demo']}, and not {shown(word)!r}")
 
 
-def without_progress(words):
+def without_progress(words: list[str]) -> list[str]:
     """The words without the script's own option."""
     end = words.index("--") if "--" in words else len(words)
     kept, rest = [], iter(words[:end])
@@ -170,7 +157,7 @@ def without_progress(words):
     return kept + words[end:]
 
 
-def told_of(words):
+def told_of(words: list[str]) -> Optional[Wrong]:
     """The code and what is wrong with the words of a call, or nothing."""
     try:
         read(*words[:1] or [""], *words[1:])
@@ -179,7 +166,7 @@ def told_of(words):
     return None
 
 
-def main(words):
+def main(words: list[str]) -> int:
     wrong = told_of(words)
     if wrong:
         print(f"error 2 code={wrong.code}\ncubed: {wrong.told}", file=sys.stderr)
@@ -188,4 +175,5 @@ def main(words):
 
 
 if __name__ == "__main__":
+    usage_if_asked(__doc__)
     sys.exit(main(sys.argv[1:]))

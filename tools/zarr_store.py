@@ -2,6 +2,8 @@
 
 It follows the forms of docs/GUIDE.md ("The files") and needs the standard library of Python 3.9 alone.
 """
+from __future__ import annotations
+
 import array
 import contextlib
 import itertools
@@ -12,12 +14,17 @@ import os
 import re
 import stat
 import sys
-from typing import NamedTuple
+from typing import IO, TYPE_CHECKING, Any, Callable, Iterator, NamedTuple, Optional, Sequence
+
+from said import Failed, shown
+from stdin_text import NAME
+
+if TYPE_CHECKING:
+    from typing_extensions import TypeGuard
 
 # Each type with its letter in the module array. Truth values are bytes.
 TYPES = {"bool": "B", "int8": "b", "int16": "h", "int32": "i", "int64": "q",
          "uint8": "B", "uint16": "H", "uint32": "I", "uint64": "Q"}
-NAME = re.compile(r"[A-Za-z0-9][A-Za-z0-9_.-]{0,31}\Z")
 # A number as the program writes it, a chunk in the key encoding in which it writes, and what a write that was stopped left behind a name.
 NUMBER = re.compile(r"(0|[1-9][0-9]{0,18})\Z")
 CHUNK = re.compile(r"c(/(0|[1-9][0-9]{0,4})){0,6}\Z")
@@ -34,22 +41,11 @@ RANK, ELEMENTS, CHUNKS, CHUNK_BYTES, METADATA_BYTES, RECORD_BYTES = 6, 2**40, 65
 MAPPED = 64 << 20
 
 
-class Failed(Exception):
-    """The array can't be written or read, and why."""
-
-
 class Unread(Failed):
     """The metadata isn't one that the program reads."""
 
 
-def shown(value, most=80):
-    """A text of a file as it may be printed: on one line, of characters that a terminal shows."""
-    text = str(value)
-    text = text if len(text) <= most else f"{text[:most]}.."
-    return "".join(letter if letter.isprintable() else ascii(letter)[1:-1] for letter in text)
-
-
-def opened(path):
+def opened(path: str) -> int:
     """The descriptor of a regular file, which may lie behind a link. Anything else, as a pipe or a device, isn't waited for."""
     descriptor = os.open(path, os.O_RDONLY | os.O_NONBLOCK | os.O_CLOEXEC | os.O_NOCTTY)
     if not stat.S_ISREG(os.fstat(descriptor).st_mode):
@@ -58,7 +54,7 @@ def opened(path):
     return descriptor
 
 
-def bytes_in(path, most):
+def bytes_in(path: str, most: int) -> bytes:
     """The bytes of a regular file, of which it has so many at most."""
     with open(opened(path), "rb") as file:
         data = file.read(most + 1)
@@ -67,27 +63,27 @@ def bytes_in(path, most):
     return data
 
 
-def is_name(name):
+def is_name(name: str) -> bool:
     """Whether this is the name of an array, or of what a write of one left when it was stopped."""
     return NAME.match(re.sub(r"\.new[0-9]+\Z", "", name)) is not None
 
 
-def item_bytes(dtype):
+def item_bytes(dtype: Any) -> int:
     return array.array(TYPES[dtype]).itemsize
 
 
-def chunk_counts(shape, chunk):
+def chunk_counts(shape: Sequence[int], chunk: Sequence[int]) -> list[int]:
     return [-(-size // side) for size, side in zip(shape, chunk)]
 
 
-def sizes_text(sizes):
+def sizes_text(sizes: Sequence[int]) -> str:
     return f"[{','.join(map(str, sizes))}]"
 
 
 class Layout:
     """The layout of a stored array: its type, shape, chunk shape, fill value, byte order and key encoding."""
 
-    def __init__(self, dtype, shape, chunk, fill=0, order="little", encoding="default", separator="/"):
+    def __init__(self, dtype: Any, shape: Sequence[int], chunk: Sequence[int], fill: int = 0, order: str = "little", encoding: str = "default", separator: str = "/") -> None:
         self.dtype, self.shape, self.chunk, self.fill = dtype, list(shape), list(chunk), int(fill)
         self.order, self.encoding, self.separator = order, encoding, separator
         if len(self.shape) > RANK:
@@ -104,28 +100,28 @@ class Layout:
             raise Unread(f"the array has more than {CHUNKS} chunks: choose larger ones")
 
     @property
-    def chunk_bytes(self):
+    def chunk_bytes(self) -> int:
         return math.prod(self.chunk) * item_bytes(self.dtype)
 
     @property
-    def chunk_count(self):
+    def chunk_count(self) -> int:
         return math.prod(chunk_counts(self.shape, self.chunk))
 
-    def is_swapped(self):
+    def is_swapped(self) -> bool:
         """Whether its elements have another byte order than this machine."""
         return item_bytes(self.dtype) > 1 and self.order != sys.byteorder
 
-    def coordinates(self):
+    def coordinates(self) -> Iterator[tuple[int, ...]]:
         """The coordinates of all chunks, in row-major order."""
         return itertools.product(*map(range, chunk_counts(self.shape, self.chunk)))
 
-    def key(self, coordinate):
+    def key(self, coordinate: Sequence[int]) -> str:
         """The file of a chunk, below the array's folder."""
         parts = [str(at) for at in coordinate]
         parts = ["c", *parts] if self.encoding == "default" else parts or ["0"]
         return self.separator.join(parts)
 
-    def coordinate(self, key):
+    def coordinate(self, key: str) -> Optional[tuple[int, ...]]:
         """The coordinate of the chunk that has this key, or nothing where no chunk has it."""
         parts = key.split(self.separator)
         if self.encoding == "default":
@@ -139,9 +135,9 @@ class Layout:
         found = tuple(map(int, parts))
         return found if all(at < count for at, count in zip(found, chunk_counts(self.shape, self.chunk))) else None
 
-    def text(self):
+    def text(self) -> str:
         """The one text in which metadata is written: compact JSON, members in byte order."""
-        codec = {"name": "bytes"}
+        codec: dict[str, Any] = {"name": "bytes"}
         if item_bytes(self.dtype) > 1:
             codec["configuration"] = {"endian": self.order}
         return compact({
@@ -151,11 +147,11 @@ class Layout:
             "codecs": [codec], "fill_value": bool(self.fill) if self.dtype == "bool" else self.fill})
 
 
-def compact(value):
+def compact(value: Any) -> str:
     return json.dumps(value, sort_keys=True, separators=(",", ":"))
 
 
-def part(value, *allowed):
+def part(value: Any, *allowed: str) -> tuple[str, dict[str, Any]]:
     """The name and the configuration of a part of the metadata."""
     if isinstance(value, str):
         return value, {}
@@ -167,11 +163,11 @@ def part(value, *allowed):
     return value["name"], told
 
 
-def is_sizes(value):
+def is_sizes(value: Any) -> TypeGuard[list[int]]:
     return isinstance(value, list) and all(isinstance(size, int) and not isinstance(size, bool) and 0 <= size <= ELEMENTS for size in value)
 
 
-def is_of(dtype, value):
+def is_of(dtype: Any, value: Any) -> bool:
     """Whether a fill value is one of the type's."""
     if dtype == "bool" or isinstance(value, bool):
         return dtype == "bool" and isinstance(value, bool)
@@ -180,7 +176,7 @@ def is_of(dtype, value):
     return isinstance(value, int) and low <= value < high
 
 
-def layout_of(told):
+def layout_of(told: Any) -> Layout:
     """The layout that metadata of version 3 says, where the program reads it."""
     if not isinstance(told, dict):
         raise Unread("its metadata isn't a JSON object")
@@ -213,7 +209,7 @@ def layout_of(told):
     return Layout(dtype, told["shape"], sides["chunk_shape"], told["fill_value"], order, encoding, separator)
 
 
-def layout_of_v2(told):
+def layout_of_v2(told: Any) -> Layout:
     """The layout that metadata of version 2 says, where the array's bytes can be read as they lie."""
     if not isinstance(told, dict) or told.get("zarr_format") != 2:
         raise Unread("its .zarray isn't that of version 2")
@@ -242,7 +238,7 @@ def layout_of_v2(told):
     return Layout(name, shape, chunk, fill, "big" if dtype[0] == ">" and item_bytes(name) > 1 else "little", "v2", separator)
 
 
-def json_of(path, constant=None):
+def json_of(path: str, constant: Optional[Callable[[str], Any]] = None) -> Any:
     data = bytes_in(path, METADATA_BYTES)
     try:
         return json.loads(data.decode("utf-8"), parse_constant=constant or no_constant)
@@ -250,7 +246,7 @@ def json_of(path, constant=None):
         raise Unread("its metadata isn't JSON") from None
 
 
-def is_read(value, levels):
+def is_read(value: Any, levels: int) -> bool:
     """Whether the program reads a JSON value: numbers that a float holds, texts of UTF-8, and so many levels."""
     if isinstance(value, (list, dict)):
         parts = value if isinstance(value, list) else [*value, *value.values()]
@@ -260,23 +256,23 @@ def is_read(value, levels):
     return value is None or (math.isfinite(value) if isinstance(value, float) else abs(value) < 2**1023)
 
 
-def no_constant(text):
+def no_constant(text: str) -> Any:
     raise ValueError(text)
 
 
 class Stored:
     """An array's name in a folder, and what lies under it."""
 
-    def __init__(self, folder, name):
+    def __init__(self, folder: str, name: str) -> None:
         self.folder, self.name = folder, name
         self.path = os.path.join(folder, name)
         self.plan = os.path.join(folder, "_cubed", name)
         self.record = os.path.join(self.plan, "plan.json")
 
-    def has_record(self):
+    def has_record(self) -> bool:
         return os.path.lexists(self.record)
 
-    def layout(self):
+    def layout(self) -> Layout:
         """Its layout, or why the program doesn't read it."""
         for metadata, read in (("zarr.json", layout_of), (".zarray", layout_of_v2)):
             try:
@@ -289,10 +285,10 @@ class Stored:
                 raise Unread(str(failed).replace(shown(self.path, 400) + os.sep, "its ")) from None
         raise Unread(NO_METADATA)
 
-    def chunk_path(self, layout, coordinate):
+    def chunk_path(self, layout: Layout, coordinate: Sequence[int]) -> str:
         return os.path.join(self.path, layout.key(coordinate))
 
-    def state(self, layout):
+    def state(self, layout: Layout) -> State:
         """The chunks of the array by what their files are."""
         found = State(0, [], {})
         for coordinate in layout.coordinates():
@@ -311,7 +307,7 @@ class Stored:
                 found.wrong[key] = f"has {told.st_size} bytes in place of {layout.chunk_bytes}"
         return found._replace(whole=layout.chunk_count - len(found.missing) - len(found.wrong))
 
-    def is_unfinished(self, layout):
+    def is_unfinished(self, layout: Layout) -> bool:
         """Whether a run began to store it and hasn't stored all of it."""
         return self.has_record() and bool(self.state(layout).missing)
 
@@ -320,11 +316,11 @@ class State(NamedTuple):
     """How many chunks of an array are whole files, the keys that have no file, and what is wrong with the files of others."""
 
     whole: int
-    missing: list
-    wrong: dict
+    missing: list[str]
+    wrong: dict[str, str]
 
 
-def files_under(path):
+def files_under(path: str) -> tuple[list[str], list[str]]:
     """The files below a folder and the links to folders, which aren't followed; the paths are relative to it."""
     files, links = [], []
     for at, folders, names in os.walk(path) if not os.path.islink(path) else []:
@@ -334,16 +330,16 @@ def files_under(path):
     return sorted(files), sorted(links)
 
 
-def names_in(folder):
+def names_in(folder: str) -> list[str]:
     """The names of arrays, of plans, and of what else could be an array, in their order."""
-    found = set()
+    found: set[str] = set()
     for at in (folder, os.path.join(folder, "_cubed")):
         with contextlib.suppress(OSError):
             found.update(entry.name for entry in os.scandir(at) if is_name(entry.name) and is_folder(entry))
     return sorted(found)
 
 
-def is_folder(entry):
+def is_folder(entry: os.DirEntry[str]) -> bool:
     """Whether an entry of a folder is one, or a link to one. A link that leads to itself is none."""
     try:
         return entry.is_dir()
@@ -354,12 +350,12 @@ def is_folder(entry):
 class Box:
     """A box of a larger array in row-major or column-major order, copied to and from a chunk by its longest runs."""
 
-    def __init__(self, shape, chunk, is_fortran=False):
+    def __init__(self, shape: Sequence[int], chunk: Sequence[int], is_fortran: bool = False) -> None:
         self.shape, self.chunk = shape, chunk
         self.steps = strides(shape[::-1])[::-1] if is_fortran else strides(shape)
         self.sides = strides(chunk)
 
-    def runs(self, coordinate):
+    def runs(self, coordinate: Sequence[int]) -> Iterator[tuple[slice, slice]]:
         """The slices of the array and of the chunk that hold the same elements."""
         low = [at * side for at, side in zip(coordinate, self.chunk)]
         ends = [min(side, size - start) for side, size, start in zip(self.chunk, self.shape, low)]
@@ -377,7 +373,7 @@ class Box:
             yield slice(outer, outer + (length - 1) * step + 1, step), slice(inner, inner + (length - 1) * side + 1, side)
 
 
-def strides(sizes):
+def strides(sizes: Sequence[int]) -> list[int]:
     """By how many elements two neighbours along each axis lie apart in row-major order."""
     found, step = [], 1
     for size in reversed(sizes):
@@ -389,33 +385,34 @@ def strides(sizes):
 class Mapped:
     """A file as a list of elements from a place on, of which little stays in memory."""
 
-    def __init__(self, file, dtype, start, count, writable=False):
+    def __init__(self, file: IO[bytes], dtype: Any, start: int, count: int, writable: bool = False) -> None:
         self.bytes = item_bytes(dtype)
         access = mmap.ACCESS_WRITE if writable else mmap.ACCESS_READ
         self.map = mmap.mmap(file.fileno(), start + count * self.bytes, access=access) if count else None
         self.whole = memoryview(self.map or b"")
-        self.elements = self.whole[start:].cast(TYPES[dtype]) if count else None
+        # (of a file without elements nothing is mapped)
+        self.elements = self.whole[start:].cast(TYPES[dtype]) if count else self.whole
 
-    def forget(self):
+    def forget(self) -> None:
         """Gives the memory of the file's pages back where they are many; the system keeps them as long as it likes."""
         if self.map is not None and len(self.map) > MAPPED and file_pages() * mmap.PAGESIZE > MAPPED:
             self.map.madvise(mmap.MADV_DONTNEED)
 
-    def close(self):
+    def close(self) -> None:
         if self.map is not None:
             self.elements.release()
             self.whole.release()
             self.map.close()
 
 
-def file_pages():
+def file_pages() -> int:
     """How many pages of files are in this process's memory; 0 where the system doesn't tell."""
     with contextlib.suppress(OSError, ValueError, IndexError), open("/proc/self/statm", encoding="ascii") as file:
         return int(file.read().split()[2])
     return 0
 
 
-def swapped(data, dtype):
+def swapped(data: bytes, dtype: Any) -> bytes:
     """The bytes of elements, each in the other byte order."""
     cells = array.array(TYPES[dtype])
     cells.frombytes(data)

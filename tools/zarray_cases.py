@@ -13,6 +13,7 @@ import sys
 TOP = os.path.dirname(os.path.dirname(os.path.realpath(__file__)))
 sys.path.insert(0, f"{TOP}/compare")
 from rules import SIZES, Array, compact, limits  # noqa: E402
+from said import usage_if_asked
 
 BASE = {"chunks": [2], "compressor": None, "dtype": ">i2", "fill_value": -1, "filters": None, "order": "C", "shape": [4], "zarr_format": 2}
 LAYOUT = {"dtype": "int16", "shape": [4], "chunk": [2], "fill": -1, "endian": "big", "encoding": "v2", "separator": "."}
@@ -114,4 +115,5 @@ def main():
 
 
 if __name__ == "__main__":
+    usage_if_asked(__doc__)
     main()

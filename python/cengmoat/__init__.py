@@ -59,7 +59,8 @@ def from_zarr(folder: Union[str, os.PathLike[str]], name: str, *, unfinished: bo
 
 
 def to_zarr(x: Array, name: str, into: Optional[Store] = None, *, progress: Optional[bool] = None, resume: bool = False,
-            keep: bool = False, explain: bool = False, executor: Any = None, paths: Optional[Mapping[str, str]] = None) -> Array:
+            keep: bool = False, explain: bool = False, executor: Any = None, paths: Optional[Mapping[str, str]] = None,
+            overwrite: bool = False) -> Array:
     """Compute an array, store it under a name, and return it as a stored array.
 
     Parameters
@@ -83,6 +84,9 @@ def to_zarr(x: Array, name: str, into: Optional[Store] = None, *, progress: Opti
         Parts of the run are handed to it, each some tasks of one operation.
     paths : mapping from str to str, optional
         Heads of the paths of the folder and of the program here, and what they are on the executor's machines.
+    overwrite : bool
+        Whether a result that stands under the name, finished or not, is removed once the plan of this one is accepted. What no run made
+        is never removed.
 
     Raises
     ------
@@ -94,12 +98,14 @@ def to_zarr(x: Array, name: str, into: Optional[Store] = None, *, progress: Opti
         Where an input was replaced after the lazy array was made.
     Locked
         Where another process stores this name now.
+    NotRemoved
+        Where something else than a result is to be overwritten.
     TypeError, ValueError
-        Where the name isn't one, or there is no store.
+        Where the name isn't one, there is no store, the executor is none, or the expression reads what is to be overwritten.
     """
     if not isinstance(x, Array):
         raise TypeError(f"to_zarr takes a lazy array, and not {type(x).__name__}: store.save stores an array in memory")
-    return x.store(name, into, progress=progress, resume=resume, keep=keep, explain=explain, executor=executor, paths=paths)
+    return x.store(name, into, progress=progress, resume=resume, keep=keep, explain=explain, executor=executor, paths=paths, overwrite=overwrite)
 
 
 def compute(*arrays: Array, store: Optional[Store] = None, progress: Optional[bool] = None, explain: bool = False) -> tuple[NDArray, ...]:

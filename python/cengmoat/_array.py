@@ -4,10 +4,11 @@ from __future__ import annotations
 from types import ModuleType
 from typing import TYPE_CHECKING, Any, Iterator, Literal, Mapping, Optional, Union, overload
 
-from . import _build as build, _views as views
+from . import _build as build, _missing as missing, _taking as taking, _views as views
 from ._collection import Collection
-from ._dtypes import DType, NDArray, as_dtype
+from ._dtypes import DType, NDArray, as_dtype, as_literal
 from ._labels import labels_of
+from ._lines import refuse_groups
 from ._operators import Operators
 from ._refused import Refused
 from ._shapes import ChunksLike, Shape, numblocks, one_axis, product, some_axes
@@ -143,6 +144,7 @@ class Array(Refused, Collection, Operators):
     # Views
 
     def __getitem__(self, key: Any) -> Array:
+        refuse_groups()
         return Array(views.index(self.node, key))
 
     @overload
@@ -209,6 +211,20 @@ class Array(Refused, Collection, Operators):
         """Return the lesser of `max` and the greater of `min` and each element; None is no bound."""
         from .array_api import clip
         return clip(self, min, max)
+
+    def take(self, indices: Any, axis: Optional[int] = None, out: None = None, mode: str = "raise") -> Array:
+        """Return the elements at some places along an axis, or row by row where none is given: places at equal distances alone."""
+        if out is not None or mode != "raise":
+            raise TypeError(f"take: an array isn't changed, so out is None, and mode is 'raise', and not {mode!r}")
+        return Array(taking.take(self.node, indices, axis))
+
+    def is_missing(self) -> Array:
+        """Return whether each element stands for nothing, as the attributes `_FillValue` and `missing_value` say."""
+        return Array(missing.is_missing(self.node))
+
+    def fill_missing(self, value: int) -> Array:
+        """Return the array with a number in place of what is missing; a ValueError where the number isn't one of the type."""
+        return Array(missing.fill_missing(self.node, as_literal(value)))
 
     def cumsum(self, axis: Optional[int] = None, dtype: Any = None, out: None = None) -> Array:
         """Return the sums from the first element to each, along an axis, or row by row where none is given."""
@@ -283,11 +299,12 @@ class Array(Refused, Collection, Operators):
         return compute_node(self.node, store, progress, explain)
 
     def store(self, name: str, into: Optional[Store] = None, *, progress: Optional[bool] = None, resume: bool = False,
-              keep: bool = False, explain: bool = False, executor: Any = None, paths: Optional[Mapping[str, str]] = None) -> Array:
+              keep: bool = False, explain: bool = False, executor: Any = None, paths: Optional[Mapping[str, str]] = None,
+              overwrite: bool = False) -> Array:
         """Compute the array, store it under a name, and return it as a stored array; see `cengmoat.to_zarr`."""
         from ._running import store_node
         return Array(store_node(self.node, name, into, progress, resume, keep, explain,
-                                executor, paths))
+                                executor, paths, overwrite))
 
     def check(self, name: str, *, store: Optional[Store] = None) -> int:
         """Compare the stored array of a name with what this expression means, and return the count of its elements.
@@ -304,6 +321,15 @@ class Array(Refused, Collection, Operators):
         """Return the operations by which the array would be computed, with their tasks, memory and bytes."""
         from ._running import plan_node
         return plan_node(self.node, store)
+
+    def to_dask(self) -> Any:
+        """Return an array of Dask with the same chunks, for what floats alone can do, as `x.to_dask().mean()`.
+
+        Its chunks are arrays of NumPy. Those of a stored array are read one by one; each of those of an expression is a run of its own.
+        An ImportError where Dask isn't installed.
+        """
+        from ._dask import to_dask
+        return to_dask(self)
 
     def __array__(self, dtype: Any = None, copy: Optional[bool] = None) -> NDArray:
         found = self.compute()

@@ -6,6 +6,8 @@ from typing import TYPE_CHECKING, Any, Union
 
 import numpy as np
 
+from ._lines import with_line
+
 if TYPE_CHECKING:
     from numpy.typing import NDArray as _NDArray
     DType = np.dtype[Any]
@@ -42,7 +44,7 @@ def as_dtype(value: Any) -> DType:
     if dtype is None or value is None:
         raise TypeError(f"{value!r} isn't an element type: it is one of {', '.join(NAMES)}")
     if dtype.kind in "fc":
-        raise NotImplementedError(f"the program has no {dtype.name}: it has integers of 8 to 64 bits and truth values")
+        raise NotImplementedError(with_line(f"the program has no {dtype.name}: it has integers of 8 to 64 bits and truth values"))
     if dtype.name not in NAMES:
         raise TypeError(f"{dtype} isn't an element type of the program: it has {', '.join(NAMES)}")
     return dtype.newbyteorder("=")

@@ -5,6 +5,7 @@ from typing import Any, Optional, Sequence, Union
 
 from . import _build as build
 from ._dtypes import Literal, check_literal
+from ._missing import kept_missing
 from ._nodes import Node
 from ._offers import offers_op
 from ._program import find_program
@@ -28,8 +29,8 @@ def has(op: str, nodes: Sequence[Node], members: dict[str, object], unknown: boo
         return False
 
 
-def extreme(op: str, args: Sequence[Argument]) -> Node:
-    """Return the node of `maximum` or `minimum` of two arguments, one of which at least is an array.
+def plain_extreme(op: str, args: Sequence[Argument]) -> Node:
+    """Return the node of `maximum` or `minimum` of two arguments, one of which at least is an array, of the numbers as they are stored.
 
     Raises
     ------
@@ -42,8 +43,14 @@ def extreme(op: str, args: Sequence[Argument]) -> Node:
     return build.where(holds, args[0], args[1])
 
 
+def extreme(op: str, args: Sequence[Argument]) -> Node:
+    """Return the node of ``plain_extreme`` where what is missing in an argument stays missing."""
+    return kept_missing(plain_extreme(op, args), [arg for arg in args if isinstance(arg, Node)])
+
+
 def clip(x: Node, low: Any, high: Any) -> Node:
     """Return the node of the lesser of `high` and the greater of `low` and x; None is no bound, and an array is one for each element.
+    What is missing stays missing.
 
     Raises
     ------
@@ -55,6 +62,6 @@ def clip(x: Node, low: Any, high: Any) -> Node:
     if len(bounds) == 2 and not any(isinstance(bound, Node) for bound in bounds) and has("clip", [x], {"args": ["x"], "min": 0, "max": 1}):
         for bound in bounds:
             check_literal(bound, x.dtype, "clip")
-        return build.make_node("clip", (x,), x.dtype, x.shape, x.chunks, {"min": low, "max": high})
+        return kept_missing(build.make_node("clip", (x,), x.dtype, x.shape, x.chunks, {"min": low, "max": high}), [x])
     found = x if low is None else extreme("maximum", [x, low])
     return found if high is None else extreme("minimum", [found, high])

@@ -7,6 +7,7 @@ from typing import Any, Optional
 
 import numpy as np
 
+from ._ranges import plain_key
 from ._shapes import Shape
 
 MOST = 2**63 - 1
@@ -100,8 +101,6 @@ def _read_entry(entry: Any) -> tuple[str, Any]:
         return "slice", entry
     if isinstance(entry, (bool, np.bool_)) or (hasattr(entry, "dtype") and getattr(entry, "dtype") == bool):
         raise NotImplementedError("the program has no indexing by truth values, since the shape would depend on them: see where")
-    if isinstance(entry, list) or hasattr(entry, "ndim") and entry.ndim:
-        raise NotImplementedError("the program has no indexing by arrays of integers: take slices, and join them with concat")
     try:
         return "integer", operator.index(entry)
     except TypeError:
@@ -118,9 +117,9 @@ def read_index(key: Any, shape: Shape) -> Index:
     ValueError
         Where the step of a slice is 0.
     NotImplementedError
-        For arrays of integers or of truth values.
+        For arrays of integers or of truth values, but where they take what a slice takes.
     """
-    keys = [_read_entry(entry) for entry in (key if isinstance(key, tuple) else (key,))]
+    keys = [_read_entry(entry) for entry in plain_key(key, shape)]
     kinds = [kind for kind, _ in keys]
     if kinds.count("...") > 1:
         raise IndexError("an index has one ellipsis at most")

@@ -4,19 +4,13 @@ from __future__ import annotations
 from typing import Any, Callable, Optional, Sequence
 
 from ._nodes import Node, in_order
+from ._packing import Attributes, attributes_of
 from ._shapes import Shape
 
 Names = tuple[Optional[str], ...]
-Attributes = dict[str, Any]
 
-# Views have the elements of their argument, so all that is said of these stands.
-_VIEWS = ("rechunk", "index", "permute_dims", "reshape", "expand_dims", "squeeze", "flip", "roll", "broadcast_to", "concat", "stack", "tril", "triu")
 _KEPT = ("astype", "cumulative_sum", "rechunk", "flip", "roll", "tril", "triu")
-# What says how numbers are packed or which of them stand for nothing: of other numbers it would be wrong.
-_PACKING = ("_FillValue", "missing_value", "scale_factor", "add_offset", "_Unsigned", "valid_min", "valid_max", "valid_range", "actual_range",
-            "flag_values", "flag_masks", "flag_meanings")
 _REDUCTIONS = ("sum", "prod", "min", "max", "any", "all", "argmin", "argmax")
-_PLACES = ("argmin", "argmax")
 
 
 def _agreed(names: Sequence[Optional[str]]) -> Optional[str]:
@@ -103,35 +97,11 @@ def _names(node: Node, args: Sequence[tuple[Shape, Names]]) -> Names:
     return special[node.op]() if node.op in special else _broadcast(node.shape, args)
 
 
-def _agreed_attributes(parts: Sequence[Attributes]) -> Attributes:
-    """Return the attributes of some arrays, but for those on which they differ."""
-    found: Attributes = {}
-    for name in dict.fromkeys(name for part in parts for name in part):
-        values = [part[name] for part in parts if name in part]
-        if all(value == values[0] for value in values):
-            found[name] = values[0]
-    return found
-
-
-def _attributes(node: Node, args: Sequence[Attributes]) -> Attributes:
-    """Return the attributes of a node, from those of its arguments."""
-    if node.meta is not None:
-        return {name: value for name, value in node.meta.attributes.items() if not node.meta.is_truth or name != "dtype"}
-    if node.op in _VIEWS:
-        return _agreed_attributes(args)
-    # (truth values and places aren't the numbers of which the attributes speak)
-    if node.op in _PLACES or (node.dtype.kind == "b" and any(arg.dtype.kind != "b" for arg in node.arrays) and node.stored_as is None):
-        return {}
-    whole = [its for arg, its in zip(node.arrays, args) if len(arg.shape) >= len(node.shape)]
-    found = _agreed_attributes(whole)
-    return found if node.stored_as is not None else {name: value for name, value in found.items() if name not in _PACKING}
-
-
 def labels_of(node: Node) -> tuple[Names, Attributes]:
     """Return the names of the axes of a node's array, and its attributes."""
     names: dict[int, Names] = {}
-    attributes: dict[int, Attributes] = {}
+    attributes: dict[int, Optional[Attributes]] = {}
     for it in in_order(node):
         names[id(it)] = _names(it, [(arg.shape, names[id(arg)]) for arg in it.arrays])
-        attributes[id(it)] = _attributes(it, [attributes[id(arg)] for arg in it.arrays])
-    return names[id(node)], attributes[id(node)]
+        attributes[id(it)] = attributes_of(it, [attributes[id(arg)] for arg in it.arrays])
+    return names[id(node)], attributes[id(node)] or {}

@@ -5,6 +5,7 @@ import contextlib
 import os
 from typing import Iterable, Iterator, Optional
 
+from ._calls import files_of
 from ._metadata import Metadata
 from ._names import record_key
 from ._opening import check_regular, new_file
@@ -124,7 +125,8 @@ def telling(call: str, folder: str, name: str, is_temporary: bool = False) -> It
         return "Nothing of it is left." if is_temporary else left_text(folder, name)
 
     try:
-        yield
+        with files_of(folder):
+            yield
     except KeyboardInterrupt:
         raise KeyboardInterrupt(f"{call} in {folder} was stopped. {left()}") from None
     except CengmoatError as error:

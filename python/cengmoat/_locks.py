@@ -1,8 +1,10 @@
 """Locks for the names of results. A lock ends with the process that holds it, and with the program that it started.
 
-The lock of a name is `flock` of the file `.locks/NAME` in the folder, which any process may take so. Its content is one JSON
-object that says who holds it: `pid`, `host`, `since`, and `temporary`, the names of what is stored for this run alone. Nothing
-else is ever written to: no file behind a link, none that has a second name, and none that has another content.
+The lock of a name is `flock` of the file `.locks/NAME` in the folder, which any process may take so. Those who compute an array
+share it, as several may make one. Who stores one at once or removes one takes it alone, and so does a call that stores something
+temporary beside the result. The script `cubed` has the same lock. Its content is one JSON object that says who took it last: `pid`,
+`host`, `since`, and `temporary`, the names of what is stored for this run alone. Nothing else is ever written to: no file behind a
+link, none that has a second name, and none that has another content.
 """
 from __future__ import annotations
 
@@ -16,7 +18,7 @@ import time
 from typing import Any, Iterator, Optional, Sequence
 
 from ._opening import check_regular, refused, told
-from .errors import Locked
+from .errors import Locked, StoreFailed
 
 # Names of arrays have no dot in front, so no array is called so.
 FOLDER = ".locks"
@@ -25,8 +27,9 @@ MOMENT = 0.25
 MOST_CONTENT = 1_048_576
 # The most characters of a file's text that an error says.
 MOST_SAID = 80
-# How often a lock's file is made anew where its folder is removed meanwhile.
-TRIES = 100
+# How often a lock's file is made anew where its folder is removed meanwhile, and how often its content is read before it is taken for
+# another program's: one who shares it may just be writing.
+TRIES, READS = 100, 3
 FLAGS = os.O_CLOEXEC | os.O_NOFOLLOW | os.O_NONBLOCK | os.O_NOCTTY
 MEMBERS = {"pid": int, "host": str, "since": str, "temporary": list}
 
@@ -52,12 +55,14 @@ def _made_place(folder: str) -> int:
         raise refused(FOLDER, "it is a link, or no folder, and locks lie in a folder alone: move it away") from None
 
 
-def _made(name: str, place: int) -> int:
+def _made(name: str, place: int, flags: int = os.O_CREAT) -> int:
     """Return the descriptor of a lock's file, which is made where it isn't there."""
     try:
-        return os.open(name, os.O_RDWR | os.O_CREAT | FLAGS, 0o666, dir_fd=place)
-    except PermissionError as error:
-        # (the file of another user: a lock needs no right to write it)
+        return os.open(name, os.O_RDWR | flags | FLAGS, 0o666, dir_fd=place)
+    except OSError as error:
+        if error.errno not in (errno.EACCES, errno.EPERM, errno.EROFS):
+            raise
+        # (the file of another user, or one where nothing may be written: a lock needs no right to write it)
         with contextlib.suppress(FileNotFoundError):
             return os.open(name, os.O_RDONLY | FLAGS, dir_fd=place)
         raise error from None
@@ -76,6 +81,14 @@ def _read(descriptor: int) -> Optional[dict[str, Any]]:
     if not isinstance(found, dict) or set(found) != set(MEMBERS):
         return None
     return found if all(isinstance(found[member], kind) for member, kind in MEMBERS.items()) else None
+
+
+def _is_strange(descriptor: int) -> bool:
+    """Return whether a lock's file has another content than a lock's."""
+    if _read(descriptor) is not None:
+        return False
+    time.sleep(0.002)
+    return True
 
 
 def _content(descriptor: int) -> dict[str, Any]:
@@ -113,7 +126,7 @@ class _File:
         check_regular(_key(self.name), state.st_mode)
         if state.st_nlink != 1:
             raise refused(_key(self.name), "it has another name beside this, so it isn't written to: move it away")
-        if _read(self.descriptor) is None:
+        if all(_is_strange(self.descriptor) for _ in range(READS)):
             raise refused(_key(self.name), "its content isn't that of a lock, so it isn't written to: move it away")
 
     def remove(self) -> None:
@@ -129,6 +142,9 @@ def _opened(folder: str, name: str) -> _File:
             file = _File(folder, name)
             break
         except OSError as error:
+            if error.errno in (errno.EACCES, errno.EPERM, errno.EROFS):
+                raise StoreFailed(f"{folder} may only be read: {error.strerror}. Write cengmoat.Store({folder!r}, work=\"scratch/mine\"),"
+                                  " which computes and stores in the folder that work= names", key=_key(name)) from None
             # (another process may just have removed the folder of the locks)
             if not left or not isinstance(error, FileNotFoundError):
                 raise told(_key(name), error) from None
@@ -140,12 +156,12 @@ def _opened(folder: str, name: str) -> _File:
     return file
 
 
-def _taken(folder: str, name: str) -> Optional[_File]:
+def _taken(folder: str, name: str, shared: bool = False) -> Optional[_File]:
     """Return a lock's file that is locked, or None where another holds it."""
     while True:
         file = _opened(folder, name)
         try:
-            fcntl.flock(file.descriptor, fcntl.LOCK_EX | fcntl.LOCK_NB)
+            fcntl.flock(file.descriptor, (fcntl.LOCK_SH if shared else fcntl.LOCK_EX) | fcntl.LOCK_NB)
             # (it may have been removed between the two calls)
             if file.is_there():
                 file.check()
@@ -174,11 +190,28 @@ class Lock:
         Its open file, which the program keeps too.
     left : list of str
         The temporary names of the run that held it before and left them.
+    shares : bool
+        Whether others may share it sooner or later.
     """
 
-    def __init__(self, descriptor: int) -> None:
-        self.descriptor = descriptor
+    def __init__(self, descriptor: int, shared: bool = False, shares: bool = False) -> None:
+        self.descriptor, self._shared, self.shares = descriptor, shared, shares or shared
         self.left = _texts(_content(descriptor).get("temporary"))
+
+    def share(self) -> None:
+        """Let others share it from now on, if they may. Who begins a run holds it alone until its record is there, so that no other one
+        of the name begins at the same time."""
+        if self.shares and not self._shared:
+            fcntl.flock(self.descriptor, fcntl.LOCK_SH)
+            self._shared = True
+
+    def be_alone(self) -> bool:
+        """Return whether nobody shares it any more. Then nobody will either, until it ends; else it may have ended by this."""
+        try:
+            fcntl.flock(self.descriptor, fcntl.LOCK_EX | fcntl.LOCK_NB)
+        except OSError:
+            return False
+        return True
 
     def write(self, temporary: Sequence[str] = ()) -> None:
         """Say who holds it, and which names are temporary. They are said before anything is stored under them.
@@ -192,23 +225,28 @@ class Lock:
         data, before = json.dumps(said).encode() + b"\n", b""
         try:
             before = os.pread(self.descriptor, MOST_CONTENT, 0)
-            # (the names that stand there are lost at no moment: they are written over, and what is longer is cut off afterwards)
+            # (the names that stand there are lost at no moment: they are written over, and what is longer is cut off afterwards; not by
+            # one of several who share it, since another one's line may stand there by then)
             if os.pwrite(self.descriptor, data, 0) < len(data):
                 raise OSError(errno.ENOSPC, os.strerror(errno.ENOSPC))
-            os.ftruncate(self.descriptor, len(data))
+            self._cut(len(data))
         except OSError as error:
             with contextlib.suppress(OSError):
-                os.ftruncate(self.descriptor, os.pwrite(self.descriptor, before, 0))
+                self._cut(os.pwrite(self.descriptor, before, 0))
             if temporary:
                 raise told(FOLDER, error) from None
+
+    def _cut(self, length: int) -> None:
+        if not self._shared:
+            os.ftruncate(self.descriptor, length)
 
 
 @contextlib.contextmanager
 def _reading(folder: str, name: str) -> Iterator[int]:
-    """Open a lock's file for reading alone, where it is one; an OSError says why it isn't."""
+    """Open a lock's file that is there, and write nothing; an OSError says why it isn't one."""
     place = _place(folder)
     try:
-        descriptor = os.open(name, os.O_RDONLY | FLAGS, dir_fd=place)
+        descriptor = _made(name, place, 0)
     finally:
         os.close(place)
     try:
@@ -223,27 +261,74 @@ def _said(text: str) -> str:
     return "".join(it if it.isprintable() else ascii(it)[1:-1] for it in text)
 
 
+def _holds(number: int, name: str, its: os.stat_result) -> Optional[bool]:
+    """Return whether a process of this machine has a lock's file open and locked, or None where the system doesn't show it."""
+    try:
+        for at in os.listdir(f"/proc/{number}/fd"):
+            with contextlib.suppress(FileNotFoundError):
+                path = f"/proc/{number}/fd/{at}"
+                if os.readlink(path).endswith(f"/{_key(name)}") and os.path.samestat(os.stat(path), its):
+                    with open(f"/proc/{number}/fdinfo/{at}", encoding="ascii", errors="replace") as file:
+                        if "FLOCK" in file.read(MOST_CONTENT):
+                            return True
+    except FileNotFoundError:
+        return False
+    except OSError:
+        return None
+    return False
+
+
+def _takers(its: os.stat_result) -> list[int]:
+    """Return the processes of this machine that took a lock and live, as far as the system tells: also those of other users."""
+    found, place = [], f"{os.major(its.st_dev):02x}:{os.minor(its.st_dev):02x}:{its.st_ino}"
+    with contextlib.suppress(OSError, ValueError), open("/proc/locks", encoding="ascii") as file:
+        rows = [line.split() for line in file]
+        found = [int(row[4]) for row in rows if row[1:2] == ["FLOCK"] and row[5:6] == [place]]
+    return [process for process in found if os.path.exists(f"/proc/{process}")]
+
+
+def _worker(descriptor: int, name: str, pid: int) -> int:
+    """Return a process that holds a lock: the one that its file names; where that has ended, another one that took it or has the same open file."""
+    its = os.fstat(descriptor)
+    is_one = _holds(pid, name, its)
+    if is_one or pid == os.getpid():
+        return pid
+    takers = _takers(its)
+    if takers:
+        return pid if pid in takers else takers[0]
+    others = sorted(map(int, filter(str.isdigit, os.listdir("/proc")))) if is_one is False else []
+    return next((number for number in others if number != os.getpid() and _holds(number, name, its)), pid)
+
+
 def _refusal(folder: str, name: str) -> Locked:
-    """Return the error that says who holds a lock."""
+    """Return the error that says who holds a lock; of those who share it one."""
     held: dict[str, Any] = {}
+    here, worker = socket.gethostname(), 0
     with contextlib.suppress(OSError), _reading(folder, name) as descriptor:
         held = _content(descriptor)
+        worker = _worker(descriptor, name, held["pid"]) if held and held["host"] == here else 0
     if not held:
         return Locked(f"{name} is being computed or stored by another process: wait until it has ended")
     pid, host, since = held["pid"], held["host"], held["since"]
-    far = "" if host == socket.gethostname() else f" on {_said(host)}"
+    if worker and worker != pid:
+        # (who took it last has ended)
+        pid, since = worker, None
+    far = "" if host == here else f" on {_said(host)}"
     where = "this process, in another thread" if pid == os.getpid() else _said(f"process {pid}") + far
-    return Locked(f"{name} is being computed or stored by {where}, since {_said(since)}: wait until it has ended", pid=pid, host=host, since=since)
+    when = "" if since is None else f", since {_said(since)}"
+    return Locked(f"{name} is being computed or stored by {where}{when}: wait until it has ended", pid=pid, host=host, since=since)
 
 
 @contextlib.contextmanager
-def locked(folder: str, name: str, *, remove: bool = False, wait: float = MOMENT) -> Iterator[Lock]:
+def locked(folder: str, name: str, *, shared: bool = False, shares: bool = False, remove: bool = False, wait: float = MOMENT) -> Iterator[Lock]:
     """Hold the lock of a name and give it.
 
     Parameters
     ----------
     folder, name : str
         The folder of the arrays, and the name.
+    shared, shares : bool
+        Whether others may share it, as those do who compute the same array: from the first, or once `Lock.share` is called.
     remove : bool
         Whether its file is removed at the end, unless it still names what is temporary.
     wait : float
@@ -257,14 +342,14 @@ def locked(folder: str, name: str, *, remove: bool = False, wait: float = MOMENT
         Where the system refuses the lock's file, as in a folder that may only be read, or another program's file lies there.
     """
     end = time.monotonic() + wait
-    file, process = _taken(folder, name), os.getpid()
+    file, process = _taken(folder, name, shared), os.getpid()
     while file is None:
         if time.monotonic() >= end:
             raise _refusal(folder, name)
         time.sleep(0.01)
-        file = _taken(folder, name)
+        file = _taken(folder, name, shared)
     try:
-        lock = Lock(file.descriptor)
+        lock = Lock(file.descriptor, shared, shares)
         lock.write(lock.left)
         yield lock
     finally:
@@ -279,10 +364,10 @@ def locked(folder: str, name: str, *, remove: bool = False, wait: float = MOMENT
 
 
 def is_locked(folder: str, name: str) -> bool:
-    """Return whether a name's lock is held. Nothing is made or written, so it needs no more than the right to read."""
+    """Return whether a name's lock is held, alone or by those who share it. Nothing is made or written, so the right to read suffices."""
     try:
         with _reading(folder, name) as descriptor:
-            fcntl.flock(descriptor, fcntl.LOCK_SH | fcntl.LOCK_NB)
+            fcntl.flock(descriptor, fcntl.LOCK_EX | fcntl.LOCK_NB)
     except BlockingIOError:
         return True
     except OSError:

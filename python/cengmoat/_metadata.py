@@ -22,6 +22,8 @@ REQUIRED = ("zarr_format", "node_type", "shape", "data_type", "chunk_grid", "chu
 OPTIONAL = ("attributes", "dimension_names", "storage_transformers")
 # Of version 2.
 DIMENSIONS_V2 = "_ARRAY_DIMENSIONS"
+# Attributes of packed numbers.
+SCALED = ("scale_factor", "add_offset")
 REQUIRED_V2 = ("shape", "chunks", "dtype", "compressor", "fill_value", "order", "filters")
 KINDS_V2 = {"b1": "bool", **{f"{sign[0]}{bits // 8}": f"{sign}{bits}" for sign in ("int", "uint") for bits in (8, 16, 32, 64)}}
 
@@ -338,5 +340,9 @@ def read_zarray(name: str, text: bytes, attributes: Optional[dict[str, Any]] = N
     held = dict(attributes or {})
     named = held.pop(DIMENSIONS_V2, None)
     is_named = isinstance(named, list) and len(named) == len(shape) and all(isinstance(it, str) for it in named)
+    is_truth = _is_truth(dtype, held)
+    if value is not None and dtype != BOOL and not is_truth and (is_named or any(name in held for name in SCALED)):
+        # (xarray keeps it there alone; of other arrays it is what is taken for an absent chunk)
+        held.setdefault("_FillValue", value)
     return Metadata(dtype, shape, chunks, int(value or 0), said[0] == ">" and dtype.itemsize > 1, "v2", separator,
-                    tuple(named) if named is not None and is_named else None, held, _is_truth(dtype, held))
+                    tuple(named) if named is not None and is_named else None, held, is_truth)

@@ -6,6 +6,7 @@ from typing import TYPE_CHECKING, Any, Iterator, Mapping, Optional, Sequence, Un
 
 from ._dtypes import DType, Literal, NDArray
 from ._shapes import Shape, product
+from .errors import BadExpression
 
 if TYPE_CHECKING:
     from ._metadata import Metadata
@@ -45,9 +46,18 @@ class Node:
         Of an input, whether it is used also where the run that makes it hasn't finished.
     meta : Metadata or None
         Of an input, the layout that was read when it was made.
+    folder : str or None
+        Of an input, the folder in which it lies.
+    count : int
+        At most how many different nodes its expression has, itself included.
+
+    Raises
+    ------
+    BadExpression
+        Where its expression has more than 256 different nodes.
     """
 
-    __slots__ = ("op", "args", "members", "dtype", "shape", "chunks", "store", "data", "takes_unfinished", "meta")
+    __slots__ = ("op", "args", "members", "dtype", "shape", "chunks", "store", "data", "takes_unfinished", "meta", "folder", "count")
 
     def __init__(self, op: str, args: Sequence[Union[Node, Literal]], members: Mapping[str, Any], dtype: DType, shape: Shape,
                  chunks: Shape) -> None:
@@ -56,19 +66,21 @@ class Node:
         self.data: Optional[NDArray] = None
         self.takes_unfinished = False
         self.meta: Optional[Metadata] = None
+        self.folder: Optional[str] = None
         self.store: Optional[Store] = None
         for arg in self.arrays:
-            if self.store is None:
-                self.store = arg.store
-            elif arg.store is not None and arg.store.folder != self.store.folder:
-                raise ValueError(f"{op} of arrays of two stores, {self.store.folder} and {arg.store.folder}:"
-                                 " an expression is over one folder")
+            self.store = _joined(op, self.store, arg.store)
+        # (each of the arguments' nodes may stand in several of them, so they are counted only where the sum is above the limit)
+        self.count: int = 1 + sum(arg.count for arg in self.arrays)
+        if self.count > MOST_NODES:
+            self.count = len(Graph(self).nodes)
+            check_count(self.count)
 
     @classmethod
-    def stored(cls, store: Store, name: str, meta: Metadata, takes_unfinished: bool) -> Node:
-        """Return the node of a stored array."""
+    def stored(cls, store: Store, name: str, meta: Metadata, takes_unfinished: bool, folder: Optional[str] = None) -> Node:
+        """Return the node of an array that is stored in a folder, which is the store's where none is given."""
         found = cls("input", (), {"name": name}, meta.dtype, meta.shape, meta.chunks)
-        found.store, found.takes_unfinished, found.meta = store, takes_unfinished, meta
+        found.store, found.takes_unfinished, found.meta, found.folder = store, takes_unfinished, meta, folder or store.folder
         return found
 
     @classmethod
@@ -106,6 +118,31 @@ class Node:
     def chunk_bytes(self) -> int:
         """The bytes of a chunk."""
         return product(self.chunks) * self.dtype.itemsize
+
+
+def _joined(op: str, one: Optional[Store], other: Optional[Store]) -> Optional[Store]:
+    """Return the store of an expression over arrays of two: the first that has a work folder, or that of the one folder of both.
+
+    Raises
+    ------
+    ValueError
+        Where they are of two folders and neither has a work folder.
+    """
+    if one is None or other is None:
+        return other if one is None else one
+    if one.work is not None or (other.work is None and one.folder == other.folder):
+        return one
+    if other.work is None:
+        raise ValueError(f"{op} of arrays of two stores, {one.folder} and {other.folder}: an expression over several folders is run in one of yours."
+                         f" Write cengmoat.Store({one.folder!r}, work=\"scratch/mine\") for the first")
+    return other
+
+
+def check_count(count: int) -> None:
+    """Refuse an expression of more than 256 different nodes, by BadExpression."""
+    if count > MOST_NODES:
+        raise BadExpression(code=7, node=0, advice=f"This expression has {count} different nodes, and {MOST_NODES} are allowed:"
+                            " y = x.store(\"part\") computes a part of it and gives it as a stored array, with which to go on.")
 
 
 def _restored(rows: list[tuple[list[tuple[bool, Any]], dict[str, Any]]]) -> Node:
@@ -150,7 +187,7 @@ class Graph:
     out : Node
         The node that is stored.
     data_names : mapping from int to str, optional
-        The names under which arrays in memory are stored, by the identities of their nodes.
+        The names under which arrays in memory are stored, and inputs lie in the folder of the run, by the identities of their nodes.
 
     Attributes
     ----------
@@ -166,15 +203,18 @@ class Graph:
         numbers: dict[str, int] = {}
         places: dict[int, int] = {}
         order = in_order(out)
-        self.stored = list({(node.members["name"], node.meta, node.takes_unfinished): node for node in order if node.op == "input"}.values())
+        self.stored = list({(node.folder, node.members["name"], node.meta, node.takes_unfinished): node
+                            for node in order if node.op == "input"}.values())
         for node in order:
             members = dict(node.members)
             if node.op == "data":
                 members["name"] = (data_names or {}).get(id(node), f"memory-{id(node)}")
+            if node.op == "input":
+                members["name"] = (data_names or {}).get(id(node), members["name"])
             if node.op not in ("input", "data") and node.args:
                 members["args"] = [f"n{places[id(arg)]}" if isinstance(arg, Node) else arg for arg in node.args]
             text: dict[str, Any] = {"op": "input" if node.op == "data" else node.op, **members}
-            key = json.dumps(text, sort_keys=True)
+            key = json.dumps([text, node.folder], sort_keys=True)
             if key not in numbers:
                 numbers[key] = len(self.nodes)
                 self.nodes.append(node)
@@ -190,7 +230,7 @@ class Graph:
     @property
     def inputs(self) -> list[str]:
         """The names of the stored arrays, each once."""
-        return list(dict.fromkeys(node.members["name"] for node in self.nodes if node.op == "input"))
+        return list(dict.fromkeys(text["name"] for node, text in zip(self.nodes, self.texts) if node.op == "input"))
 
     def text(self, name: str) -> str:
         """Return the text for the program that stores the result under a name."""

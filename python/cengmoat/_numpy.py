@@ -8,6 +8,7 @@ import numpy as np
 
 from . import _build as build, _views as views
 from ._dtypes import BOOL, as_int, as_literal
+from ._lines import line_of_caller
 from ._nodes import Node
 from ._refused import WAYS, refuse
 from ._shapes import one_axis
@@ -49,7 +50,7 @@ def call_ufunc(ufunc: np.ufunc, method: str, inputs: Sequence[Any], options: dic
     NotImplementedError
         Where there is no such function.
     """
-    from ._operators import operand
+    from ._operators import of_float, operand
     if any(it is not None for it in options.pop("out", ())):
         raise TypeError(f"an array in memory isn't changed by a lazy one: x.compute() computes it, as in {ufunc.__name__}(a, x.compute(), out=a)")
     if method == "reduce" and ufunc in REDUCED:
@@ -57,6 +58,9 @@ def call_ufunc(ufunc: np.ufunc, method: str, inputs: Sequence[Any], options: dic
     name = ufunc.__name__ if method == "__call__" else f"{ufunc.__name__}.{method}"
     if options:
         raise TypeError(f"numpy.{name} of lazy arrays has no {', '.join(options)}: x.astype converts, and xp.where chooses")
+    found = of_float(UFUNCS.get(ufunc, ""), *inputs) if method == "__call__" and len(inputs) == 2 else None
+    if found is not None:
+        return _array(found)
     if any(operand(it) is NotImplemented for it in inputs):
         return NotImplemented
     if method == "__call__" and ufunc is np.divmod:
@@ -264,7 +268,7 @@ def _known() -> dict[Any, Callable[..., Any]]:
         np.cumsum: lambda a, axis=None, dtype=None: _array(_node(a)).cumsum(axis, dtype), np.copy: lambda a: _array(_node(a)), np.shape: lambda a: a.shape, np.ndim: lambda a: a.ndim,
         np.size: lambda a, axis=None: a.size if axis is None else a.shape[axis], np.iscomplexobj: lambda x: False, np.isrealobj: lambda x: True,
         np.result_type: lambda *them: np.result_type(*(_stand_in(it.node) if hasattr(it, "node") else it for it in them)),
-        np.einsum: _einsum, np.pad: _pad,
+        np.einsum: _einsum, np.pad: _pad, np.take: lambda a, indices, axis=None, mode="raise": _array(_node(a)).take(indices, axis, None, mode),
         np.can_cast: lambda from_, to, casting="safe": np.can_cast(from_.dtype, to, casting),
         np.isreal: lambda x: _namespace().ones_like(x, dtype="bool"),
     }
@@ -293,7 +297,8 @@ def call_function(function: Callable[..., Any], args: Sequence[Any], options: di
         module = getattr(function, "__module__", "numpy") or "numpy"
         if name in WAYS or module == "numpy":
             refuse(name)
-        raise NotImplementedError(f"there is no lazy {module}.{name}. Nothing was computed. Write {module}.{name}(x.compute(), ..)")
+        line = line_of_caller() or f"{module}.{name}(x.compute(), ..)"
+        raise NotImplementedError(f"there is no lazy {module}.{name}. Nothing was computed. Write {line}")
     if options.get("out") is not None:
         raise TypeError(f"numpy.{name}: an array in memory isn't changed by a lazy one")
     options = {option: value for option, value in options.items() if option != "out"}

@@ -4,11 +4,12 @@ from __future__ import annotations
 import functools
 import json
 import os
+import shlex
 import subprocess
 import tempfile
 from typing import Optional, Sequence
 
-from ._program import environment, find_program
+from ._program import LOG, environment, find_program
 from .errors import NoProgram
 
 # The answers by which a call is known to have been understood: a text that is empty, and an array that isn't there.
@@ -22,8 +23,10 @@ def _answer(program: str, changed: int, words: Sequence[str], text: str) -> Opti
     del changed
     with tempfile.TemporaryDirectory(prefix="cengmoat-") as folder:
         try:
-            return subprocess.run([program, folder, *words], input=text.encode(), stdout=subprocess.DEVNULL, stderr=subprocess.DEVNULL,
-                                  env=environment(), timeout=MOST_SECONDS).returncode
+            found = subprocess.run([program, folder, *words], input=text.encode(), stdout=subprocess.DEVNULL, stderr=subprocess.DEVNULL,
+                                   env=environment(), timeout=MOST_SECONDS).returncode
+            LOG.debug("%s: status %d, to see what it offers", shlex.join([program, folder, *words]), found)
+            return found
         except (OSError, subprocess.TimeoutExpired):
             return None
 

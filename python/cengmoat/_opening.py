@@ -5,7 +5,7 @@ import contextlib
 import itertools
 import os
 import stat
-from typing import Callable, Optional
+from typing import Callable, Iterator, Optional
 
 from .errors import StoreFailed
 
@@ -101,8 +101,20 @@ def new_file(path: str) -> tuple[int, str]:
     OSError
         What the system says.
     """
-    for _ in range(MOST_NAMES):
-        new = f"{path}.new{os.getpid()}{next(_COUNTER):06}"
+    for new in _new_names(path):
         with contextlib.suppress(FileExistsError):
             return os.open(new, os.O_WRONLY | os.O_CREAT | os.O_EXCL | os.O_NOFOLLOW | os.O_CLOEXEC, 0o666), new
     raise FileExistsError(17, "File exists", path)
+
+
+def new_folder(path: str) -> str:
+    """Return the path of a new folder beside a path, of a name as that of `new_file`; an OSError is what the system says."""
+    for new in _new_names(path):
+        with contextlib.suppress(FileExistsError):
+            os.mkdir(new)
+            return new
+    raise FileExistsError(17, "File exists", path)
+
+
+def _new_names(path: str) -> Iterator[str]:
+    return (f"{path}.new{os.getpid()}{next(_COUNTER):06}" for _ in range(MOST_NAMES))

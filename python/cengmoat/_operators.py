@@ -8,6 +8,7 @@ import numpy as np
 
 from . import _build as build, _views as views
 from ._dtypes import DType, Literal, NDArray, as_dtype, as_literal, check_unmasked, is_written
+from ._floats import compared
 from ._nodes import Node
 from ._shapes import Shape, check_limits, chosen_chunks
 
@@ -61,12 +62,20 @@ def operand(value: Any) -> Any:
     return NotImplemented
 
 
+def of_float(op: str, left: Any, right: Any) -> Optional[Node]:
+    """Return the node of a comparison of a lazy array of integers with a finite float, or None where it isn't one."""
+    return compared(op, *(it.node if isinstance(it, Operators) else it for it in (left, right)))
+
+
 def _binary(op: str, left: Any, right: Any) -> Any:
     """Return the array of a function of two operands, or NotImplemented where one isn't known here."""
+    kind = type(left) if isinstance(left, Operators) else type(right)
+    found = of_float(op, left, right)
+    if found is not None:
+        return kind(found)
     args = [operand(left), operand(right)]
     if any(arg is NotImplemented for arg in args):
         return NotImplemented
-    kind = type(left) if isinstance(left, Operators) else type(right)
     return kind(build.elementwise(op, args))
 
 

@@ -5,6 +5,8 @@ import subprocess
 import time
 from typing import NamedTuple, Sequence
 
+from ._dying import dies_with_parent
+
 
 class Ended(NamedTuple):
     """How a part ended: the status of the program, what it wrote on both streams, and the seconds that it took."""
@@ -16,7 +18,8 @@ class Ended(NamedTuple):
 
 
 def run_part(words: Sequence[str], text: str) -> Ended:
-    """Call the program with these words and this text. It may be called again, or twice at once, with nothing lost."""
+    """Call the program with these words and this text, and let it end where this process does. It may be called again, or twice at once,
+    with nothing lost."""
     began = time.monotonic()
-    ended = subprocess.run(list(words), input=text.encode(), stdout=subprocess.PIPE, stderr=subprocess.PIPE)
+    ended = subprocess.run(list(words), input=text.encode(), stdout=subprocess.PIPE, stderr=subprocess.PIPE, preexec_fn=dies_with_parent())
     return Ended(ended.returncode, ended.stdout.decode(errors="replace"), ended.stderr.decode(errors="replace"), time.monotonic() - began)

@@ -10,6 +10,7 @@ import re
 from typing import TYPE_CHECKING, Any, Callable, Mapping, NamedTuple, Optional, Sequence
 
 from ._part import Ended, run_part
+from ._program import LOG
 from .errors import NotReady, Stopped, error_of
 
 if TYPE_CHECKING:
@@ -55,6 +56,14 @@ def mapped(path: str, paths: Mapping[str, str]) -> str:
         if path == head or path.startswith(head.rstrip("/") + "/"):
             return paths[head] + path[len(head):]
     return path
+
+
+def check_executor(executor: Any) -> None:
+    """Refuse what is no executor, by a TypeError."""
+    if isinstance(executor, type) or not callable(getattr(executor, "submit", None)):
+        kind = f"the class {executor.__name__}" if isinstance(executor, type) else f"one of {type(executor).__name__}"
+        raise TypeError(f"executor= is an object with submit(f, *args), as concurrent.futures.ThreadPoolExecutor(4) or dask.distributed.Client(..),"
+                        f" and not {kind}. Nothing was stored")
 
 
 class Engine:
@@ -130,6 +139,8 @@ class Engine:
             why = ""
         except Exception as error:
             ended, why = None, f"{type(error).__name__}: {error}"
+        if ended is not None:
+            LOG.info("part of operation %d, tasks %d to %d: status %d in %.3f s", part.step, part.start, part.stop - 1, ended.status, ended.seconds)
         if ended is not None and ended.status == 0:
             self.done[part.step] = self.done.get(part.step, 0) + part.stop - part.start
             fitting = int((part.stop - part.start) * SECONDS / max(ended.seconds, 0.01))

@@ -131,6 +131,11 @@ class Plan:
     def __repr__(self) -> str:
         return "\n".join([table_text(*self._table()), *self._said()])
 
+    def svg(self) -> str:
+        """Return the operations as a graph, with the bytes that are read on its edges: a picture as a text of SVG."""
+        from ._svg import plan_svg
+        return plan_svg(self)
+
     def _repr_html_(self) -> str:
         return table_html(*self._table()) + "".join(f"<div>{escape(line)}</div>" for line in self._said())
 

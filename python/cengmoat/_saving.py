@@ -8,11 +8,15 @@ from typing import Any
 import numpy as np
 
 from ._dtypes import NDArray, check_unmasked
-from .errors import Exists
+from .errors import Exists, StoreFailed
 from ._files import chunk_slices, whole_chunk, write_file
 from ._metadata import Metadata
 from ._names import metadata_key, record_key, zarray_key
 from ._shapes import Shape
+
+# What a group may have already, of either version, and what it gets.
+GROUP_KEYS = ("zarr.json", ".zgroup", ".zarray", ".zattrs", ".zmetadata")
+GROUP_TEXT = b'{"attributes":{},"node_type":"group","zarr_format":3}'
 
 
 def check_absent(folder: str, name: str) -> None:
@@ -20,6 +24,17 @@ def check_absent(folder: str, name: str) -> None:
     for key in (record_key(name), metadata_key(name), zarray_key(name)):
         if os.path.lexists(os.path.join(folder, key)):
             raise Exists(key=key)
+
+
+def write_group(folder: str) -> None:
+    """Write a group's metadata into a folder in which an array was saved, by which other programs list its arrays.
+
+    Nothing is written where there is metadata of either version, or an array of version 2, which such a group wouldn't list.
+    """
+    with contextlib.suppress(OSError, StoreFailed):
+        if not any(os.path.lexists(os.path.join(folder, key)) for key in GROUP_KEYS) and not any(
+                os.path.lexists(os.path.join(entry.path, ".zarray")) for entry in os.scandir(folder)):
+            write_file(folder, "zarr.json", GROUP_TEXT)
 
 
 def _part(data: Any, meta: Metadata, coordinate: Shape) -> NDArray:

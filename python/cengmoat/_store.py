@@ -2,31 +2,37 @@
 from __future__ import annotations
 
 import contextlib
+import copy
 import difflib
 import json
 import os
-from typing import Any, Iterator, Mapping, NoReturn, Optional, Sequence, Union
+from typing import Any, Callable, ItemsView, Iterator, Mapping, NoReturn, Optional, Sequence, Union, ValuesView
 
 import numpy as np
 
 from ._array import Array
 from ._build import astype
+from ._calls import reading
 from ._dtypes import NDArray, as_dtype, as_int, check_unmasked
-from .errors import NoArray
+from .errors import NoArray, NotRemoved
 from ._files import read_index_of
 from ._index import read_index
 from ._left import telling
+from ._links import check_unlinked, has_array, is_below
 from ._locks import locked
 from ._metadata import MOST_LEVELS, MOST_TEXT, Metadata, is_readable
-from ._names import check_free_name, check_name
+from ._names import as_folder, check_free_name, check_name
+from ._mounts import reports_late
 from ._nodes import Node
 from ._offers import offers_words
 from ._plans import Report
+from ._readable import ReadableItems, ReadableValues, readable
 from ._program import find_program
 from ._removing import Removal
-from ._saving import check_absent, write_array
+from ._saving import check_absent, write_array, write_group
 from ._shapes import ChunksLike, as_chunks, check_limits
 from ._sizes import as_bytes
+from ._sources import own_chunks
 from ._status import Status, all_names, array_names, check_finished, metadata_of, status_of
 from ._temporary import remove_names, uninterrupted
 
@@ -99,11 +105,16 @@ class Store(Mapping[str, Array]):
     fusion : int
         2 to compute arrays within the tasks that read them, where no other task does, and never store them; 1 to store each result but
         those of functions that are computed with another one. The elements are the same. A program that has no such option takes 1.
+    work : str or path, optional
+        A folder of yours for one that is only read: all that is stored lies there, with links to the arrays that are read. An expression
+        over arrays of several folders is run in that of the first array whose store has one.
 
     Attributes
     ----------
     report : Report or None
         What the last run did.
+    source : str or None
+        Of a store over a work folder, the folder that is only read.
 
     Raises
     ------
@@ -114,8 +125,14 @@ class Store(Mapping[str, Array]):
     """
 
     def __init__(self, folder: Union[str, os.PathLike[str]], program: Optional[str] = None, allowed_mem: Union[int, str] = "200MB",
-                 reserved_mem: Union[int, str] = 0, workers: Optional[int] = None, retries: int = 2, split_every: int = 4, fusion: int = 2) -> None:
-        self.folder = os.path.abspath(os.path.expanduser(os.fspath(folder)))
+                 reserved_mem: Union[int, str] = 0, workers: Optional[int] = None, retries: int = 2, split_every: int = 4, fusion: int = 2,
+                 work: Union[str, os.PathLike[str], None] = None) -> None:
+        self.folder = as_folder(folder)
+        self.work = None if work is None else as_folder(work)
+        self.source: Optional[str] = None
+        self.owner = self
+        if self.work is not None and is_below(self.work, self.folder):
+            raise ValueError(f"work: {self.work} is {self.folder} or lies in it, and nothing is written there: take another folder")
         self.allowed_mem = as_bytes(allowed_mem, "allowed_mem")
         self.reserved_mem = as_bytes(reserved_mem, "reserved_mem")
         self.workers = min(64, len(os.sched_getaffinity(0))) if workers is None else _count(workers, 1, 64, "workers")
@@ -133,12 +150,26 @@ class Store(Mapping[str, Array]):
         return self._program
 
     def __repr__(self) -> str:
-        return f"cengmoat.Store({self.folder!r}, {len(self.names())} arrays)"
+        work = "" if self.work is None else f", work={self.work!r}"
+        return f"cengmoat.Store({self.folder!r}{work}, {len(self.names())} arrays)"
+
+    def working(self) -> Store:
+        """Return the store over the folder in which this one works: itself, where it has no work folder."""
+        if self.work is None:
+            return self
+        found = copy.copy(self)
+        found.folder, found.work, found.source = self.work, None, self.folder
+        return found
+
+    def home(self, name: str) -> str:
+        """Return the folder in which an array of this name lies: that of what is stored, where something is, or the one that is read."""
+        is_stored = self.work is not None and not os.path.islink(os.path.join(self.work, name)) and has_array(self.work, name)
+        return self.work if is_stored and self.work is not None else self.folder
 
     def words(self, command: str, folder: Optional[str] = None, is_temporary: bool = False, fusion: Optional[int] = None) -> list[str]:
         """Return the words of a call of the program, over another folder and with another `fusion` where one is given.
 
-        What is temporary isn't written to the disk before it has its name, where the program offers that.
+        What is temporary isn't written to the disk before it has its name, where the program offers that and the folder tells errors at once.
         """
         found = [self.program, self.folder if folder is None else folder, command]
         if command != "check":
@@ -150,7 +181,7 @@ class Store(Mapping[str, Array]):
             found += ["--retries", str(self.retries)]
         if command in ("run", "resume") and self.workers != 1:
             found += ["--workers", str(self.workers)]
-        if is_temporary and offers_words(self.program, command, "--sync", "0"):
+        if is_temporary and offers_words(self.program, command, "--sync", "0") and not reports_late(self.folder):
             found += ["--sync", "0"]
         return found
 
@@ -158,7 +189,14 @@ class Store(Mapping[str, Array]):
 
     def names(self) -> list[str]:
         """Return the names of the stored arrays, in order; `status` says which of them are finished."""
-        return array_names(self.folder)
+        return self._all(array_names)
+
+    def _all(self, names: Callable[[str], list[str]]) -> list[str]:
+        """Return the names of both folders. A link in the work folder is no array of its own."""
+        found = names(self.folder)
+        if self.work is None:
+            return found
+        return sorted({*found, *(name for name in names(self.work) if not os.path.islink(os.path.join(self.work, name)))})
 
     def __iter__(self) -> Iterator[str]:
         return iter(self.names())
@@ -168,6 +206,18 @@ class Store(Mapping[str, Array]):
 
     def __contains__(self, name: object) -> bool:
         return name in self.names()
+
+    def items(self) -> ItemsView[str, Array]:
+        """Return the names with their lazy arrays, without those that can't be read; `unread` says why they can't."""
+        return ReadableItems(self)
+
+    def values(self) -> ValuesView[Array]:
+        """Return the lazy arrays of `items`."""
+        return ReadableValues(self)
+
+    def unread(self) -> dict[str, str]:
+        """Return why each array that `items` passes over can't be read, by name: as compressed, of floats, or unfinished."""
+        return {name: why for name, _, why in readable(self) if why}
 
     # (two stores are the same if they are one object: their arrays aren't compared)
     __eq__ = object.__eq__
@@ -188,7 +238,7 @@ class Store(Mapping[str, Array]):
 
     def _missing(self, name: str) -> NoArray:
         """Return the error that says that there is no array, and which names are near."""
-        names = all_names(self.folder)
+        names = self._all(all_names)
         near = difflib.get_close_matches(name, names, 3, 0.5) or [it for it in names if it.lower() == name.lower()]
         some = ", ".join(names[:10]) + (", .." if len(names) > 10 else "")
         said = f" Near names: {', '.join(near)}." if near else f" There are: {some}." if names else ""
@@ -196,7 +246,7 @@ class Store(Mapping[str, Array]):
         return NoArray(f"there is no array {name!r} in {self.folder}{where}.{said}", name=name)
 
     def _layout(self, name: str) -> Metadata:
-        found = metadata_of(self.folder, check_name(name))
+        found = metadata_of(self.home(check_name(name)), name)
         if found is None:
             raise self._missing(name)
         return found
@@ -222,10 +272,12 @@ class Store(Mapping[str, Array]):
         TypeError, ValueError
             Where the name isn't one.
         """
-        meta = self._layout(name)
-        if not unfinished:
-            check_finished(self.folder, name)
-        node = Node.stored(self, name, meta, unfinished)
+        with reading(f"store[{name!r}]", self.folder):
+            meta = self._layout(name)
+            home = self.home(name)
+            if not unfinished:
+                check_finished(home, name)
+        node = Node.stored(self, name, meta, unfinished, home)
         return Array(astype(node, meta.seen_dtype))
 
     def __getitem__(self, name: str) -> Array:
@@ -243,7 +295,7 @@ class Store(Mapping[str, Array]):
             An array of integers or truth values. Of one that has `shape`, `dtype` and slices (a memory map, an array of another
             library) only a chunk at a time is in memory.
         chunks : int or tuple of int, optional
-            The chunk shape; -1 means the whole axis. Else chunks of at most about 16 MiB.
+            The chunk shape; -1 means the whole axis. Else that of an array of Zarr, Dask or xarray, or chunks of at most about 16 MiB.
         dims : sequence of str, optional
             The names of the axes; else those of the data, if it is an array of xarray.
         attrs : mapping, optional
@@ -269,14 +321,17 @@ class Store(Mapping[str, Array]):
         except NotImplementedError as error:
             raise TypeError(str(error)) from None
         shape = tuple(int(size) for size in data.shape)
-        sides = as_chunks(chunks, shape, dtype)
+        sides = as_chunks(own_chunks(data, shape, dtype) if chunks is None else chunks, shape, dtype)
         check_limits(shape, sides, dtype, "save")
         meta = Metadata(dtype, shape, sides, dimensions=_dims(data, dims, len(shape)), attributes=_attrs(data, attrs))
         if len(meta.text()) > MOST_TEXT:
             raise ValueError(f"attrs: the metadata has {len(meta.text())} bytes with them, and {MOST_TEXT} are the most that is read")
-        with telling(f"store.save({name!r}, ..)", self.folder, name, True), locked(self.folder, name):
-            check_absent(self.folder, name)
-            write_array(self.folder, name, meta, data)
+        folder = self.working().folder
+        check_unlinked(self.working(), name)
+        with telling(f"store.save({name!r}, ..)", folder, name, True), locked(folder, name):
+            check_absent(folder, name)
+            write_array(folder, name, meta, data)
+            write_group(folder)
         return self.array(name)
 
     def read(self, name: str, index: Any = ..., *, unfinished: bool = False) -> NDArray:
@@ -300,15 +355,18 @@ class Store(Mapping[str, Array]):
         IndexError, ValueError, NotImplementedError
             Where the index isn't one of the array.
         """
-        meta = self._layout(name)
-        if not unfinished:
-            check_finished(self.folder, name)
-        found = read_index_of(self.folder, name, meta, read_index(index, meta.shape))
+        with reading(f"store.read({name!r})", self.folder):
+            meta = self._layout(name)
+            home = self.home(name)
+            if not unfinished:
+                check_finished(home, name)
+            found = read_index_of(home, name, meta, read_index(index, meta.shape))
         return found != 0 if meta.is_truth else found
 
     def status(self) -> Status:
-        """Return the name, type, shape, stored chunks, state and bytes of each array, of unfinished ones too."""
-        return Status([status_of(self.folder, name) for name in all_names(self.folder)])
+        """Return the name, type, shape, whole chunks, state and bytes of each array, also of those that are unfinished or can't be read."""
+        with reading("store.status()", self.folder):
+            return Status([status_of(self.home(name), name) for name in self._all(lambda folder: all_names(folder, True))])
 
     def remove(self, name: str, *, inputs: bool = False) -> list[str]:
         """Remove an array, the record of the run that made it, and all on the way to it.
@@ -339,13 +397,17 @@ class Store(Mapping[str, Array]):
         StoreFailed
             Where a file can't be removed.
         """
-        if Removal(self.folder, check_name(name)).is_nothing:
-            raise self._missing(name)
-        with telling(f"store.remove({name!r})", self.folder, name), locked(self.folder, name, remove=True) as lock, uninterrupted():
-            found = Removal(self.folder, name)
+        with reading(f"store.remove({name!r})", self.folder):
+            if self.work is not None and self.home(check_name(name)) == self.folder and has_array(self.folder, name):
+                raise NotRemoved(f"{name} isn't removed: it lies in {self.folder}, which is only read", name=name)
+            folder = self.working().folder
+            if Removal(folder, check_name(name)).is_nothing:
+                raise self._missing(name)
+        with telling(f"store.remove({name!r})", folder, name), locked(folder, name, remove=True) as lock, uninterrupted():
+            found = Removal(folder, name)
             found.check(inputs)
             found.remove()
             # (what a killed call that stored it kept beside it)
-            remove_names(self.folder, lock.left)
+            remove_names(folder, lock.left)
             lock.write()
         return found.kept

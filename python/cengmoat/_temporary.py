@@ -13,6 +13,7 @@ from typing import Iterator, Sequence
 
 from ._locks import Lock, locked, temporaries
 from ._metadata import Metadata
+from ._mounts import reports_late
 from ._names import IN_MEMORY, TEMPORARY, is_own
 from ._nodes import Graph, Node, in_order
 from ._removing import Removal, remove_own
@@ -71,10 +72,11 @@ def memory_stored(folder: str, graph: Graph, lock: Lock, more: Sequence[str] = (
             if not Removal(folder, name).is_nothing:
                 raise Exists(key=name)
         lock.write(names)
+    is_synced = bool(nodes) and reports_late(folder)
     try:
         for name, node in nodes.items():
             assert node.data is not None
-            write_array(folder, name, Metadata(node.dtype, node.shape, node.chunks), node.data, sync=False)
+            write_array(folder, name, Metadata(node.dtype, node.shape, node.chunks), node.data, sync=is_synced)
         yield
     finally:
         if names:

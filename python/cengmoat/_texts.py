@@ -6,6 +6,8 @@ from typing import Any, Mapping, Optional
 _WRONG_BUILD = "the program is perhaps of another version than the package: see Store.program"
 _V2 = "version 2"
 _REWRITE = "store it anew, as by store.save(new_name, array)"
+_UNPACK = ("with a store of another folder, store.save(\"{name}\", zarr.open(..)[\"{name}\"]) stores it uncompressed, in its chunks and one of"
+           " them at a time; .. is this folder")
 _TYPES = "store it as an integer type or bool, as by numpy.round(x * 100).astype(\"int32\")"
 _LIMITS = "more than six axes, 2^40 elements, 2^28 bytes in a chunk, or 65,536 chunks"
 
@@ -46,7 +48,7 @@ TEXTS: dict[tuple[int, Optional[int]], tuple[str, str]] = {
     (7, 5): (f"the shape or the chunk grid of {{name}} isn't read: it isn't regular, or has {_LIMITS}", "take other chunks"),
     (7, 6): ("the key encoding of {name} is neither default nor v2 with / or .", _REWRITE),
     (7, 7): ("the fill value of {name} isn't a number of its type", "store it with a fill value of the type, as 0"),
-    (7, 8): ("{name} is compressed or sharded", "store it uncompressed, in zarr-python with compressors=None"),
+    (7, 8): ("{name} is compressed or sharded", _UNPACK),
     (7, 9): ("the metadata of {name} has an unknown member that must be understood", _REWRITE),
     (7, 10): ("the metadata of {name} is longer than 1,048,576 bytes", "store fewer attributes"),
     (7, 11): ("the type or the shape of {name} isn't that of the expression", "see whether the expression or the name is another one"),
@@ -57,7 +59,7 @@ TEXTS: dict[tuple[int, Optional[int]], tuple[str, str]] = {
     (7, 25): (f"the shape or the chunks of {{name}}, of {_V2}, aren't read: they have {_LIMITS}", "take other chunks"),
     (7, 26): (f"the separator of the keys of {{name}}, of {_V2}, is neither . nor /", _REWRITE),
     (7, 27): (f"the fill value of {{name}}, of {_V2}, isn't a number of its type", "store it with a fill value of the type, as 0, or none"),
-    (7, 28): (f"{{name}}, of {_V2}, is compressed or filtered", "store it once without a compressor, as by compressor=None"),
+    (7, 28): (f"{{name}}, of {_V2}, is compressed or filtered", _UNPACK),
     (7, 29): (f"the chunks of {{name}}, of {_V2}, are in column-major order", "store it once in the order C"),
     (7, 30): (f"the .zarray of {{name}}, of {_V2}, is longer than 1,048,576 bytes", _REWRITE),
     (8, None): ("there is no array {name!r}", "store.names() lists the names"),

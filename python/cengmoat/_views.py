@@ -10,7 +10,7 @@ from ._build import astype, make_node
 from ._dtypes import BOOL, DType, Literal, as_int, check_literal, greatest, least, promote
 from ._index import read_index
 from ._nodes import Node
-from ._shapes import ChunksLike, Shape, as_chunks, as_shape, broadcast, chosen_chunks, one_axis, product, some_axes
+from ._shapes import MOST_CHUNK_BYTES, ChunksLike, Shape, as_chunks, as_shape, broadcast, chosen_chunks, one_axis, product, some_axes
 
 MOST_JOINED = 8
 
@@ -90,8 +90,16 @@ def _common(op: str, sources: Sequence[Node]) -> DType:
     return reduce(promote, (source.dtype for source in sources))
 
 
+def _with_side(source: Node, axis: int, side: int) -> Node:
+    """Return an array with another chunk size along an axis, or as it is where a chunk would be above the limit."""
+    sides = (*source.chunks[:axis], side, *source.chunks[axis + 1:])
+    return rechunk(source, sides) if product(sides) * source.dtype.itemsize <= MOST_CHUNK_BYTES else source
+
+
 def concat(sources: Sequence[Node], axis: int) -> Node:
     """Return the node of arrays one behind the other along an axis. More than eight are joined in groups.
+
+    The chunks are those of the first array, along the axis those of the longest: a slice of one element in front makes no chunks of one.
 
     Raises
     ------
@@ -109,9 +117,10 @@ def concat(sources: Sequence[Node], axis: int) -> Node:
         raise ValueError(f"concat: the shapes {', '.join(str(source.shape) for source in sources)} differ off axis {at}")
     while len(sources) > MOST_JOINED:
         sources = [concat(sources[first:first + MOST_JOINED], at) for first in range(0, len(sources), MOST_JOINED)]
-    first = sources[0]
+    # (the program takes the chunks of the first one)
+    first = _with_side(sources[0], at, max(sources, key=lambda source: source.shape[at]).chunks[at])
     shape = (*first.shape[:at], sum(source.shape[at] for source in sources), *first.shape[at + 1:])
-    return make_node("concat", sources, dtype, shape, first.chunks, {"axis": at})
+    return make_node("concat", [first, *sources[1:]], dtype, shape, first.chunks, {"axis": at})
 
 
 def stack(sources: Sequence[Node], axis: int) -> Node:

@@ -61,9 +61,9 @@ class Case(unittest.TestCase):
         return cengmoat.Store(os.path.join(self.folder, "arrays"), **options)
 
     def keys(self, folder: str) -> list[str]:
-        """Return the paths of all files below a folder, but for those of locks."""
+        """Return the paths of all files below a folder, but for those of locks and the metadata of the group of saved arrays."""
         return sorted(os.path.relpath(os.path.join(at, name), folder) for at, _, names in os.walk(folder) for name in names
-                      if os.path.basename(at) != ".locks")
+                      if os.path.basename(at) != ".locks" and (name != "zarr.json" or at not in (folder, os.path.join(self.folder, "arrays"))))
 
     def same(self, found: Any, wanted: Any, said: Any = None) -> None:
         """Compare an array with NumPy's: the kind of object, type, shape and each element."""

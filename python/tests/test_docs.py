@@ -124,6 +124,25 @@ class Install(Case):
             code = "import cengmoat, numpy; print((cengmoat.Store('b').save('t', numpy.arange(3)) + 1).compute())"
             self.assertEqual(self.said(target, code), "[1 2 3]")
 
+    def test_the_command(self) -> None:
+        """pip installs `cubed`, which finds the program of the package, and never takes itself for it."""
+        target = self.installed()
+        command = os.path.join(target, "bin", "cubed")
+        environment = {"PYTHONPATH": target, "PATH": f"{os.path.dirname(command)}:/usr/bin:/bin"}
+
+        def said(*words: str) -> subprocess.CompletedProcess[str]:
+            return subprocess.run([command, *words], env=environment, cwd=self.folder, capture_output=True, text=True, timeout=60)
+
+        self.assertEqual(said("--version").stdout.splitlines(), [f"cengmoat {cengmoat.__version__}", "program: isn't here"])
+        missing = said("arrays", "plan")
+        self.assertEqual((missing.returncode, "the program isn't here" in missing.stderr), (1, True))
+        for named in (command, "cubed"):
+            environment["CENGMOAT_CUBED"] = named
+            self.assertIn("is the package's own command", said("arrays", "plan").stderr)
+        environment["CENGMOAT_CUBED"] = self.fake_program("print(words); sys.exit(9)")
+        ended = said("arrays", "plan", "--workers", "3")
+        self.assertEqual((ended.stdout.strip(), ended.returncode), ("['arrays', 'plan', '--workers', '3']", 9))
+
     def test_in_an_environment(self) -> None:
         """As the page says: `python3 -m venv`, then pip of it; and again as an editable one."""
         venv = os.path.join(self.folder, "venv")

@@ -199,6 +199,23 @@ class EachType(WithProgram):
         self.computes(xp.concat(lazy, axis=1), np.concatenate(parts, axis=1))
         self.computes(xp.stack([it[:, 0] for it in lazy], axis=1), np.stack([it[:, 0] for it in parts], axis=1))
 
+    def test_joined_arrays_have_the_chunks_of_the_longest(self) -> None:
+        data = np.arange(60, dtype="int16").reshape(30, 2)
+        x = self.store().save("x", data, (7, 2))
+        running = xp.concat([x[6:7], x[7:] - x[:-7]])
+        self.assertEqual((running.chunksize, running.numblocks), ((7, 2), (4, 1)))
+        self.computes(running, np.concatenate([data[6:7], data[7:] - data[:-7]]))
+        short = xp.full((1, 2), 9, dtype="int16", chunks=(1, 1))
+        for lazy, wanted, chunks in (
+                (xp.concat([short, x]), np.concatenate([np.full((1, 2), 9, "int16"), data]), (7, 1)),
+                (xp.concat([x, short]), np.concatenate([data, np.full((1, 2), 9, "int16")]), (7, 2)),
+                (xp.concat([short] * 9 + [x]), np.concatenate([np.full((9, 2), 9, "int16"), data]), (7, 1)),
+                (xp.concat([x[:0], x[:1], x]), np.concatenate([data[:1], data]), (7, 2))):
+            self.assertEqual(lazy.chunksize, chunks)
+            self.computes(lazy, wanted)
+        wide = xp.full((1, 2**27), 0, dtype="int16", chunks=(1, 2**27))
+        self.assertEqual(xp.concat([wide, xp.full((4, 2**27), 0, dtype="int16", chunks=(4, 2**20))]).chunksize, (1, 2**27))
+
     def test_products(self) -> None:
         for dtype in INTEGERS:
             x, y, left, right = self.pair(dtype)

@@ -2,7 +2,9 @@
 from __future__ import annotations
 
 import importlib.util
+import re
 import unittest
+from typing import Any
 
 from .support import Case, WithProgram, cengmoat, np, xp
 
@@ -112,10 +114,137 @@ class Numbers(WithProgram):
         times = np.datetime64("2000-01-01", "ns") + np.arange(400) * np.timedelta64(1, "D")
         exact = xarray.DataArray(data, coords={"time": times, "place": ["a", "b"]})
         lazy = xarray.DataArray(self.store().save("t", data, (100, 1)), coords=exact.coords)
-        for name in ("sum", "min", "max", "count"):
+        for name in ("sum", "min", "max", "count", "first"):
             found, wanted = (getattr(it.groupby("time.month"), name)() for it in (lazy.cengmoat, exact))
             self.computes(found.data, wanted.transpose("month", "place").data, name)
             self.assertTrue(found.compute().identical(wanted.transpose("month", "place")), name)
+
+    def pair(self, data: Any, chunks: Any, freq: str = "D", start: str = "2000-01-01") -> tuple[Any, Any]:
+        """Return an array of xarray over a lazy one and one over NumPy's, with times along the first axis."""
+        if importlib.util.find_spec("xarray") is None:
+            self.skipTest("xarray isn't there")
+        import xarray
+
+        import cengmoat.xarray  # noqa: F401
+        times = np.datetime64(start, "ns") + np.arange(len(data)) * np.timedelta64(1, freq)
+        exact = xarray.DataArray(data, coords={"time": times, "place": list("abcdef")[:data.shape[1]]}, name="t")
+        return xarray.DataArray(self.store().save("t", data, chunks), coords=exact.coords, name="t"), exact
+
+    def test_more_folds_of_xarray(self) -> None:
+        lazy, exact = self.pair((np.arange(300, dtype="int16").reshape(100, 3) * 31) % 7 - 4, (30, 2))
+        groups, months = lazy.cengmoat.groupby("time.month"), exact.groupby("time.month")
+        self.computes(groups.mean().data, (months.sum() // months.count()).data)
+        self.computes(groups.mean(scale=10).data, (months.sum() * 10 // months.count()).data)
+        self.computes((lazy > 2).cengmoat.groupby("time.month").any().data, (exact > 2).groupby("time.month").any().data)
+        self.computes((lazy > -4).cengmoat.groupby("time.month").all().data, (exact > -4).groupby("time.month").all().data)
+        self.computes(groups.any().data, (exact != 0).groupby("time.month").any().data)
+        self.computes((lazy > 0).cengmoat.groupby("time.month").first().data, (exact > 0).groupby("time.month").first().data)
+        self.computes((lazy > 0).cengmoat.groupby("time.month").sum().data, (exact > 0).groupby("time.month").sum().data)
+
+    def test_bins_of_time(self) -> None:
+        import pandas
+        data = (np.arange(800, dtype="int16").reshape(400, 2) * 31) % 97 - 40
+        lazy, exact = self.pair(data, (100, 1))
+        for rule in ("5D", "M", "W"):
+            bins, wanted = lazy.cengmoat.resample(time=rule), exact.resample(time=rule)
+            found = bins.sum()
+            self.computes(found.data, wanted.sum().data, rule)
+            self.assertTrue((found.time == wanted.sum().time).all() and found.dims == ("time", "place"), rule)
+        for name in ("min", "max", "count", "first"):
+            self.computes(getattr(bins, name)().data, getattr(wanted, name)().data, name)
+        self.computes(bins.mean(scale=100).data, (wanted.sum() * 100 // wanted.count()).data)
+        # bins without elements: sums and counts are 0, and the others have a value that is given
+        self.store().remove("t", inputs=True)
+        lazy, exact = self.pair(np.array([[5], [7], [-9]], "int16"), (2, 1), "W")
+        bins = lazy.cengmoat.resample(time="3D")
+        self.computes(bins.sum().data[:, 0], [5, 0, 7, 0, -9])
+        self.computes(bins.count().data[:, 0], [1, 0, 1, 0, 1])
+        self.computes(bins.max(fill_value=-1).data[:, 0], np.array([5, -1, 7, -1, -9], "int16"))
+        self.computes(bins.mean(fill_value=3).data[:, 0], [5, 3, 7, 3, -9])
+        self.computes(bins.first().data[:, 0], np.array([5, 0, 7, 0, -9], "int16"))
+        self.computes((lazy > 0).cengmoat.resample(time="3D").any().data[:, 0], [True, False, True, False, False])
+        self.computes((lazy > 0).cengmoat.resample(time="3D").all().data[:, 0], [True, True, True, True, False])
+        # 30 years of months are as many nodes as two
+        index = pandas.date_range("1990-01-01", periods=10_957)
+        import xarray
+        days = xarray.DataArray(self.store().save("d", np.zeros(10_957, "int8"), 1000), coords={"time": index})
+        months = days.cengmoat.resample(time="M").mean()
+        self.assertEqual((months.shape, len(cengmoat._nodes.Graph(months.data.node).nodes)), ((360,), 5))
+        backwards = days.isel(time=slice(None, None, -1))
+        self.assertRaises(ValueError, backwards.cengmoat.resample, time="M")
+        self.assertRaises(ValueError, days.cengmoat.resample)
+        self.assertRaises(TypeError, lazy.cengmoat.resample, place="M")
+
+    def test_groups_that_are_refused(self) -> None:
+        lazy, exact = self.pair(np.arange(120, dtype="int16").reshape(60, 2), (30, 1))
+        for call in (lambda: lazy.groupby("time.month").sum(), lambda: lazy.groupby("time.month").max("time"), lambda: lazy.groupby("time.day").first(),
+                     lambda: lazy.groupby("time.month").map(lambda it: it)):
+            with self.assertRaises(NotImplementedError) as found:
+                call()
+            self.assertIn("x.cengmoat.groupby(\"time.month\").sum()", str(found.exception))
+        clim = lazy.cengmoat.groupby("time.month").mean()
+        groups = lazy.cengmoat.groupby("time.month")
+        for call in (lambda: groups - clim, lambda: groups + clim, lambda: clim - groups, lambda: lazy.groupby("time.month") - clim):
+            with self.assertRaises(NotImplementedError) as found:
+                call()
+            [line] = re.findall(r"Write (.*) over clim = (?:.*)", str(found.exception))
+        means = exact.groupby("time.month").sum() // exact.groupby("time.month").count()
+        self.computes(eval(line, {"x": lazy, "clim": clim}).data, (exact.groupby("time.month") - means).data)
+        # xarray's own resample takes slices
+        self.computes(lazy.resample(time="M").sum().data, exact.resample(time="M").sum().data)
+
+
+class Rolling(WithProgram):
+    def test_running_sums(self) -> None:
+        if importlib.util.find_spec("xarray") is None:
+            self.skipTest("xarray isn't there")
+        import xarray
+
+        import cengmoat.xarray  # noqa: F401
+        data = (np.arange(150, dtype="int16").reshape(75, 2) * 7919) % 1009 - 500
+        exact = xarray.DataArray(data, dims=("time", "place"), coords={"place": ["a", "b"]})
+        lazy = xarray.DataArray(self.store().save("t", data, (20, 1)), dims=exact.dims, coords=exact.coords)
+        for window, least in ((1, None), (2, None), (7, None), (7, 1), (7, 3), (64, 60)):
+            its, ours = exact.rolling(time=window, min_periods=least), lazy.cengmoat.rolling(time=window, min_periods=least, fill_value=-7)
+            counts = np.minimum(np.arange(75) + 1, window)[:, None]
+            sums = its.sum().values
+            known = ~np.isnan(sums)
+            whole = np.where(known, sums, 0).astype("int64")
+            for name, wanted in (("sum", whole), ("mean", whole // counts), ("max", its.max().values), ("min", its.min().values)):
+                found = getattr(ours, name)()
+                self.assertEqual((found.dims, list(found.place.values)), (("time", "place"), ["a", "b"]))
+                self.computes(found.data, np.where(known, wanted, -7).astype("int64"), (window, least, name))
+        self.computes(lazy.cengmoat.rolling(time=7).mean(scale=10).data, np.where(np.arange(75)[:, None] < 6, 0, np.nan_to_num(
+            exact.rolling(time=7).sum().values).astype("int64") * 10 // 7))
+        along = lazy.cengmoat.rolling(place=2, min_periods=1)
+        self.computes(along.sum().data, exact.rolling(place=2, min_periods=1).sum().values.astype("int64"))
+        self.computes((lazy > 0).cengmoat.rolling(time=3, min_periods=1).sum().data, (exact > 0).rolling(time=3, min_periods=1).sum().values.astype("int64"))
+        self.assertEqual(lazy.cengmoat.rolling(time=7).sum().data.chunksize, (20, 1))
+        # stored numbers are folded, those that stand for what is missing too
+        numbers = np.array([5, -9, 7, 3, -9], "int16")
+        gaps = xarray.DataArray(self.store().save("gaps", numbers, 2, dims=("time",), attrs={"_FillValue": -9}))
+        self.computes(gaps.cengmoat.rolling(time=2, min_periods=1).max().data, np.array([5, 5, 7, 7, 3]))
+        self.computes(gaps.cengmoat.rolling(time=2, min_periods=1).sum().data, np.array([5, -4, -2, 10, -6]))
+        short = lazy[:3].cengmoat.rolling(time=7, min_periods=2)
+        zeros = np.zeros((1, 2), "int64")
+        self.computes(short.sum().data, np.concatenate([zeros, np.cumsum(data[:3], axis=0)[1:]]))
+        self.computes(short.max().data, np.concatenate([zeros, np.maximum.accumulate(data[:3])[1:]]))
+
+    def test_windows_that_are_refused(self) -> None:
+        if importlib.util.find_spec("xarray") is None:
+            self.skipTest("xarray isn't there")
+        import xarray
+
+        import cengmoat.xarray  # noqa: F401
+        lazy = xarray.DataArray(self.store().save("t", np.arange(100), 20), dims=("time",))
+        for options in ({"time": 65}, {"time": 0}, {"time": 7, "min_periods": 8}, {"time": 7, "min_periods": 0}, {"place": 7}, {}, {"time": 2, "place": 3}):
+            self.assertRaises(ValueError, lazy.cengmoat.rolling, **options)
+        self.assertRaises(TypeError, lazy.cengmoat.rolling, time=2.5)
+        with self.assertRaises(NotImplementedError) as found:
+            lazy.cengmoat.rolling(time=7, center=True)
+        self.assertIn(".shift(time=-(n // 2), fill_value=0)", str(found.exception))
+        with self.assertRaises(TypeError):
+            xarray.DataArray(np.arange(3), dims="time").cengmoat.rolling(time=2)
 
 
 if __name__ == "__main__":

@@ -51,10 +51,8 @@ class Labels(Case):
 
     def test_attributes_through_operators(self) -> None:
         t, b = self.t, self.b
-        packed_not = {"units": "0.1 K", "long_name": "temperature"}
-        for lazy, wanted in ((t[0], self.about), (t.rechunk(1), self.about), (t.mT, self.about), (t + 1, packed_not), (t - b, packed_not),
-                             (t.sum(axis=0), packed_not), (t > 2, {}), (t.argmin(axis=0), {}), (t[0, 0] + b, {"long_name": "temperature", "why": "base"}),
-                             (xp.concat([t[0, 0], b]), {"long_name": "temperature", "scale_factor": 10, "_FillValue": -1, "why": "base"})):
+        for lazy, wanted in ((t[0], self.about), (t.rechunk(1), self.about), (t.mT, self.about), (t + 1, {}), (t - b, {}), (t.sum(axis=0), {}),
+                             (t > 2, {}), (t.argmin(axis=0), {}), (t[0, 0] + b, {"why": "base"}), (xp.concat([t[0, 0], b]), {"why": "base"})):
             self.assertEqual(lazy.attrs, wanted, lazy)
 
     def test_what_not_each_reader_takes_is_not_written(self) -> None:
@@ -78,9 +76,9 @@ class Labels(Case):
                 file.write(text)
         for odd in ("Infinity", "[0, NaN]", "1e999", '"\\ud800"', "1" + "0" * 400, "[" * 200 + "]" * 200):
             with open(os.path.join(self.here.folder, "v", ".zattrs"), "w", encoding="utf-8") as file:
-                file.write(f'{{"odd": {odd}, "units": "K"}}')
+                file.write(f'{{"odd": {odd}, "source": "a"}}')
             cengmoat._running._label(self.here.folder, "y", (self.here["v"] + 1).node)
-            self.assertEqual(self.here["y"].attrs, {"units": "K"}, odd)
+            self.assertEqual(self.here["y"].attrs, {"source": "a"}, odd)
 
     def test_from_xarray(self) -> None:
         if xarray is None:
@@ -123,9 +121,9 @@ class Labels(Case):
 class Results(WithProgram):
     def test_they_are_stored_with_a_result(self) -> None:
         here = self.store()
-        t = here.save("t", np.arange(12, dtype="int32").reshape(3, 4), 2, dims=("time", "place"), attrs={"units": "K", "_FillValue": 0})
+        t = here.save("t", np.arange(12, dtype="int32").reshape(3, 4), 2, dims=("time", "place"), attrs={"source": "a", "units": "K", "_FillValue": 0})
         total = t.sum(axis=0).store("total")
-        self.assertEqual((total.dims, total.attrs), (("place",), {"units": "K"}))
+        self.assertEqual((total.dims, total.attrs), (("place",), {"source": "a"}))
         self.same(total.compute(), np.arange(12).reshape(3, 4).sum(axis=0))
         self.assertEqual(t.sum(axis=0).check("total"), 4)
         other = self.store()
@@ -137,12 +135,12 @@ class Results(WithProgram):
         here = self.store()
         os.makedirs(os.path.join(here.folder, "old"))
         texts: dict[str, Any] = {".zarray": {"chunks": [2, 2], "compressor": None, "dtype": "<i4", "fill_value": 3, "filters": None, "order": "C",
-                                             "shape": [2, 3], "zarr_format": 2}, ".zattrs": {"_ARRAY_DIMENSIONS": ["y", "x"], "units": "m"}}
+                                             "shape": [2, 3], "zarr_format": 2}, ".zattrs": {"_ARRAY_DIMENSIONS": ["y", "x"], "source": "a"}}
         for name, text in texts.items():
             with open(os.path.join(here.folder, "old", name), "w", encoding="utf-8") as file:
                 json.dump(text, file)
         new = (here["old"] + 1).store("new")
-        self.assertEqual((new.dims, new.attrs), (("y", "x"), {"units": "m"}))
+        self.assertEqual((new.dims, new.attrs), (("y", "x"), {"source": "a"}))
         self.same(new.compute(), np.full((2, 3), 4, "int32"))
         if xarray is not None:
             self.assertEqual(xarray.DataArray(new).sum("x").dims, ("y",))

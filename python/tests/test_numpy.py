@@ -30,7 +30,7 @@ np.einsum('ab,b->a', x, y) ; np.einsum('...b,...b->...', x, x) ; np.einsum('ab,b
 np.pad(x, ((0, 0), (2, 1)), constant_values=-3) ; np.einsum('a,b->ba', y, y) ; divmod(x, 5)[0] ; divmod(x, 5)[1] ; divmod(7, x)[1] ; np.divmod(x, y)[0]
 np.cumsum(x) ; np.cumsum(x, axis=1) ; x.cumsum() ; x.cumsum(axis=-2) ; np.cumsum(t, axis=0) ; y.cumsum(0, dtype='int32')
 t.sum() ; t.sum(axis=0) ; (x > 3).sum(axis=1, keepdims=True) ; t.prod() ; t.sum(dtype='int32') ; np.arange(6, dtype='int32') - x ; np.arange(6, dtype='int32') == x"""
-REFUSED = """np.mean(x) ; x.mean() ; x.mean(axis=0) ; np.std(x) ; x.std() ; np.var(x) ; x.var(ddof=1) ; np.median(x) ; x.median() ; np.take(x, [0, 1]) ; x.take([0, 1])
+REFUSED = """np.mean(x) ; x.mean() ; x.mean(axis=0) ; np.std(x) ; x.std() ; np.var(x) ; x.var(ddof=1) ; np.median(x) ; x.median() ; np.take(x, [0, 1, 3]) ; x.take([1, 1])
 np.cumprod(x) ; np.sort(x) ; x.sort() ; np.argsort(x) ; x.argsort() ; np.unique(x) ; np.nonzero(x) ; x.nonzero() ; np.where(t)
 np.percentile(x, 5) ; np.quantile(x, 0.5) ; x.quantile(0.5) ; np.average(x) ; np.repeat(x, 2) ; x.repeat(2) ; np.searchsorted(x[0], 3) ; np.trace(x) ; x.diagonal()
 np.sin(x) ; np.sqrt(x) ; np.true_divide(x, 2) ; np.power(x, 2) ; np.linalg.det(x) ; np.fft.fft(x) ; np.array_equal(x, x) ; np.add.accumulate(x) ; np.multiply.outer(x, x)

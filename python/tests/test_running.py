@@ -107,8 +107,10 @@ class Interrupts(Case):
         process = self.begin("(t + 1).compute()", self.fake_program(ENDLESS))
         until(lambda: os.path.exists(self.begun))
         process.kill()
-        process.wait()
-        self.end_of_children(process)
+        self.end(process)
+        # (the program ends with the process that started it, and the lock with both)
+        [name] = [it for it in os.listdir(os.path.join(self.here.folder, ".locks")) if it.startswith("tmp-")]
+        until(lambda: not cengmoat._locks.is_locked(self.here.folder, name))
         self.assertEqual(len(self.left()), 4)
         ending = "sys.stderr.write('error 70')\nsys.exit(70)"
         store = self.store(program=self.fake_program(ending))
@@ -139,21 +141,6 @@ class Interrupts(Case):
         self.assertRegex(str(found.exception), rf"process {process.pid}, since \d{{4}}-\d\d-\d\d \d\d:\d\d:\d\d: wait")
         process.send_signal(signal.SIGINT)
         self.end(process)
-
-    def end_of_children(self, process: subprocess.Popen[bytes]) -> None:
-        """End the program whose starter was killed. It holds the lock as long as it runs."""
-        locks = os.path.join(self.here.folder, ".locks")
-        [name] = [it for it in os.listdir(locks) if it.startswith("tmp-")]
-        self.assertTrue(cengmoat._locks.is_locked(self.here.folder, name))
-        for number in filter(str.isdigit, os.listdir("/proc")):
-            try:
-                with open(f"/proc/{number}/cmdline", "rb") as file:
-                    if os.path.join(self.folder, "fake").encode() in file.read().split(b"\0"):
-                        os.kill(int(number), signal.SIGKILL)
-            except OSError:
-                continue
-        self.end(process)
-        until(lambda: not cengmoat._locks.is_locked(self.here.folder, name))
 
     def test_two_runs_of_one_name(self) -> None:
         process = self.begin("(t + 1).store('y')", self.fake_program(ENDLESS))

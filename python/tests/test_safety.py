@@ -575,7 +575,8 @@ class Rights(Case):
         said = subprocess.run([sys.executable, "-c", code], env={**os.environ, "PYTHONPATH": PYTHON, "PYTHONDONTWRITEBYTECODE": "1"},
                               capture_output=True, text=True, cwd="/")
         self.assertEqual(said.stdout.splitlines()[:1], ["(4,) [0, 1, 2, 3] [0, 1, 2, 3] finished ['t', 'y']"], said.stderr)
-        self.assertIn(f"StoreFailed x.store('z') in {here.folder}: .locks/z: Permission denied", said.stdout)
+        self.assertIn(f"StoreFailed x.store('z') in {here.folder}: {here.folder} may only be read: Permission denied", said.stdout)
+        self.assertIn('work="scratch/mine")', said.stdout)
 
     def test_reading_makes_nothing(self) -> None:
         folder = os.path.join(self.folder, "arrays")
@@ -584,7 +585,7 @@ class Rights(Case):
         os.rmdir(os.path.join(folder, ".locks"))
         store = cengmoat.Store(folder)
         store.read("t"), store["t"].compute(), store.status(), list(store.items())
-        self.assertEqual(os.listdir(folder), ["t"])
+        self.assertEqual(sorted(os.listdir(folder)), ["t", "zarr.json"])
         os.mkdir(os.path.join(folder, ".locks"))
         store.status(), store.read("t")
         self.assertEqual(os.listdir(os.path.join(folder, ".locks")), [])

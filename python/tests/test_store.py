@@ -255,7 +255,7 @@ class BadInput(Case):
                      lambda: np.pad(x, 1.5), lambda: np.pad(x, "1"), lambda: np.pad(x, True),
                      lambda: x == [0, 1, 2], lambda: x != (0, 1, 2), lambda: [0, 1, 2] == x, lambda: x == range(3), lambda: x != Fraction(1, 2),
                      lambda: x == Decimal(1), lambda: [1, 2] < x, lambda: np.equal(x, [1]), lambda: xp.add(x, [1]),
-                     lambda: x == 0.5, lambda: x == "a", lambda: x < None, lambda: x.sum(keepdims=1), lambda: xp.add(1, 2), lambda: x + [1, 2],
+                     lambda: x == float("nan"), lambda: x < float("inf"), lambda: x + 0.5, lambda: truth == 0.5, lambda: x == "a", lambda: x < None, lambda: x.sum(keepdims=1), lambda: xp.add(1, 2), lambda: x + [1, 2],
                      lambda: xp.sum([1, 2]), lambda: x.astype("uint64") + x, lambda: truth < truth, lambda: -truth, lambda: x.argmax(axis=(0,)),
                      lambda: hash(x), lambda: xp.sum(x, dtype="bool"), lambda: cengmoat.compute(3), lambda: cengmoat.to_zarr(3, "a"),
                      lambda: len(x.sum()), lambda: xp.arange(3, dtype="bool"), lambda: truth @ truth, lambda: range(x), lambda: list(x.sum())):
@@ -399,13 +399,28 @@ class Known(Case):
         graph = cengmoat._nodes.Graph(((t + 1) * (t + 1) + (t + 1)).node)
         self.assertEqual([node.op for node in graph.nodes], ["input", "add", "multiply", "add"])
         deep = t
-        for _ in range(5000):
+        for _ in range(255):
             deep = deep + deep
-        self.assertEqual(len(cengmoat._nodes.Graph(deep.node).nodes), 5001)
-        with self.assertRaises(cengmoat.BadExpression) as found:
-            deep.compute()
-        self.assertIn("5001", str(found.exception))
-        self.assertEqual((found.exception.status, found.exception.code), (3, 7))
+        self.assertEqual(len(cengmoat._nodes.Graph(deep.node).nodes), 256)
+
+    def test_too_many_nodes_are_refused_when_they_are_written(self) -> None:
+        t = self.store().save("t", np.ones(3, "int8"))
+        one, chain = t, t
+        for number in range(255):
+            one, chain = one + one, chain + number % 100
+        for last in (lambda: one + one, lambda: chain + 1, lambda: chain[1:], lambda: chain.sum(), lambda: one + chain):
+            with self.assertRaises(cengmoat.BadExpression) as found:
+                last()
+            self.assertEqual((found.exception.status, found.exception.code), (3, 7))
+            self.assertRegex(str(found.exception), r"has (257|512) different nodes, and 256 are allowed: y = x.store")
+        # (what stands in both sides is counted once)
+        self.assertEqual(len(cengmoat._nodes.Graph(((t + 1) * (t + 1)).node).nodes), 3)
+        half = t
+        for number in range(126):
+            half = half + number % 100
+        self.assertEqual((half * half * half + half).node.count, 130)
+        import pickle
+        self.assertEqual(pickle.loads(pickle.dumps(half)).node.count, 127)
 
 
 if __name__ == "__main__":

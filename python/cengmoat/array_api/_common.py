@@ -7,6 +7,7 @@ import numpy as np
 
 from .._array import Array
 from .._dtypes import DType, Literal, NDArray, as_dtype, as_literal
+from .._lines import with_line
 from .._nodes import Node
 from .._operators import memory_node, operand, scalar_node
 
@@ -18,7 +19,7 @@ VALUES = "the shape would depend on values"
 
 def lacks(name: str, why: str) -> NoReturn:
     """Refuse a function of the standard that the program hasn't, in one sentence."""
-    raise NotImplementedError(f"the program has no {name}: {why}")
+    raise NotImplementedError(with_line(f"the program has no {name}: {why}"))
 
 
 def node_of(x: Any, what: str = "x") -> Node:

@@ -7,6 +7,7 @@ from .. import _build as build, _extremes as extremes, _views as views
 from .._array import Array
 from .._dtypes import BOOL
 from .._nodes import Node
+from .._operators import of_float
 from ._common import FLOATS, Argument, lacks, node_of, node_or_literal
 
 
@@ -17,6 +18,9 @@ def _one(op: str, x: Any) -> Array:
 
 def _two(op: str, x1: Any, x2: Any) -> Array:
     """Return the array of a function of two arguments, one of which at least is an array."""
+    found = of_float(op, x1, x2)
+    if found is not None:
+        return Array(found)
     args = [node_or_literal(x1, "x1"), node_or_literal(x2, "x2")]
     if not any(isinstance(arg, Node) for arg in args):
         raise TypeError(f"{op} takes an array, and not numbers alone: asarray makes one")

@@ -11,6 +11,8 @@ from ._common import Axes, node_of
 def concat(arrays: Union[tuple[Array, ...], list[Array]], /, *, axis: Optional[int] = 0) -> Array:
     """Return arrays one behind the other along an axis, or all elements row by row where it is None.
 
+    The chunks are those of the first, along the axis those of the longest.
+
     Raises
     ------
     TypeError

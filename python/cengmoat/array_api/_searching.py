@@ -3,9 +3,10 @@ from __future__ import annotations
 
 from typing import Any, Optional
 
-from .. import _build as build
+from .. import _build as build, _taking as taking
 from .._array import Array
 from .._dtypes import BOOL, INT64
+from .._missing import kept_missing
 from .._nodes import Node
 from .._operators import scalar_node
 from ._common import VALUES, Argument, lacks, node_of, node_or_literal
@@ -36,6 +37,9 @@ def argmin(x: Array, /, *, axis: Optional[int] = None, keepdims: bool = False) -
 def where(condition: Array, x1: Argument, x2: Argument, /) -> Array:
     """Return the elements of x1 where the condition is true, and those of x2 elsewhere.
 
+    Where one of both is a number, what is missing in the other stays missing, unless the condition compares with the number that stands
+    for it: see ``Array.fill_missing``.
+
     Parameters
     ----------
     condition : Array
@@ -53,7 +57,9 @@ def where(condition: Array, x1: Argument, x2: Argument, /) -> Array:
     args = [node_or_literal(x1, "x1"), node_or_literal(x2, "x2")]
     if not any(isinstance(arg, Node) for arg in args):
         args[0] = scalar_node(args[0], BOOL if isinstance(args[0], bool) else INT64)
-    return Array(build.where(node_of(condition, "condition"), args[0], args[1]))
+    holds, chosen = node_of(condition, "condition"), [arg for arg in args if isinstance(arg, Node)]
+    found = build.where(holds, args[0], args[1])
+    return Array(kept_missing(found, chosen, holds) if len(chosen) == 1 else found)
 
 
 def nonzero(x: Array, /) -> tuple[Array, ...]:
@@ -62,8 +68,10 @@ def nonzero(x: Array, /) -> tuple[Array, ...]:
 
 
 def take(x: Array, indices: Array, /, *, axis: Optional[int] = None) -> Array:
-    """Refuse: there is no indexing by arrays of integers."""
-    lacks("take", "there is no indexing by arrays of integers; take slices, and join them with concat")
+    """Return the elements at some places along an axis: places in memory at equal distances alone, which is a slice."""
+    if axis is None and len(node_of(x).shape) != 1:
+        raise ValueError("take of an array of several axes wants axis=")
+    return Array(taking.take(node_of(x), indices, axis))
 
 
 def unique_all(x: Array, /) -> Any:
