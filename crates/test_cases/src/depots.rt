@@ -5,7 +5,6 @@ use cu_dir::DirDepot;
 use cu_store::{Depot, DepotFault, Got, Key};
 use std::alloc::Global;
 use std::fs;
-use std::os::fd::IntoRawFd;
 use std::rt::Files;
 use test_rows::{CasePlace, Findings, NamedTexts, Said, key_of, refuse_others};
 
@@ -21,10 +20,7 @@ pub(crate) fn run_depot<R: Files + AllocGlobal + Clone + Drop>(
     said: &Said<'_>,
     name: &str,
     findings: &mut Findings,
-) -> Result<()>
-where
-    R::File: IntoRawFd,
-{
+) -> Result<()> {
     refuse_others(said.case, &["name", "calls"])?;
     let _ = fs::remove_dir_all(rt, FOLDER);
     let Ok(mut depot) = DirDepot::make(rt, texts.alloc, FOLDER) else {
