@@ -8,11 +8,11 @@ use Rattle.cu_store.specs.Steps.{Shown, OrLate, Lands}
 use Rattle.cu_store.specs.Yard.{is_made}
 use Rattle.cu_store.specs.declared.yard.Spec.{Spec}
 use Rattle.cu_store.proofs.Specs.{made_is_served}
-use Rattle.cu_dir.specs.Common.{KnowsOf, IsLentAs, IsPutUnder, is_there, seen_of, served_as}
+use Rattle.cu_dir.specs.Common.{KnowsOf, IsLentAs, IsPutUnder, is_there, seen_among, served_as}
 use Rattle.cu_dir.specs.Depot.{AnswersAs}
 use Rattle.cu_dir.specs.Names.{ends_as_new, path_of}
 use Rattle.cu_dir.specs.Tree.{values_in, values_under}
-use Rattle.cu_dir.specs.Yard.{served_over, known_over, IsOwn}
+use Rattle.cu_dir.specs.Yard.{served_over, known_over, IsTreePass}
 use Rattle.cu_dir.specs.declared.yard.TreeYard.{TreeYard}
 use Rattle.cu_dir.specs.declared.yard.TreePass.{TreePass}
 use Rattle.cu_dir.proofs.NamesLemmas.{path_of_one, not_beside}
@@ -35,7 +35,7 @@ there_or_not (Some x) = search rules
 made_and : (made : Bool) (o p : Option (List ℕ)) → IsTrue made → p ≡ o → IsTrue (made && is_there p) ↔ IsSome o
 made_and made o p is same = rw (is, same) (there_or_not o)
 
-pub lent_seen : (specs : List Spec) (values known : Option Contents) → IsLentAs specs values known → HasSeenHeld specs values (seen_of specs known)
+pub lent_seen : (specs : List Spec) (values known : Option Contents) → IsLentAs specs values known → HasSeenHeld specs values (seen_among specs known)
 lent_seen specs None None lent = λ key made. refl
 lent_seen specs (Some v) (Some k) lent = λ key made. made_and (is_made specs key) (v key) (k key) made (lent key (made_is_served specs key made))
 lent_seen specs None (Some k) lent = absurd lent
@@ -44,7 +44,7 @@ lent_seen specs (Some v) None lent = absurd lent
 -- a folder that was lent is shared by the yard over it
 pub is_shared : {C H : Type 0} {lent : C → Lent} {entries : C → Option Contents} {known : H → Option Contents} {owns : C → H → Type 0}
     → ((c : C) (h : H) → owns c h → KnowsOf (lent c) (entries c) (known h))
-    → (y : TreeYard C) (p : TreePass C H) → IsOwn lent owns y p → p.faults ≡ 0 → p.calls ≡ 0
+    → (y : TreeYard C) (p : TreePass C H) → IsTreePass lent owns y p → p.faults ≡ 0 → p.calls ≡ 0
     → (shown : Shown) → IsLentAs (lent y.common).specs shown.held (known p.hand)
     → IsShared (lent y.common) true shown (served_over lent entries y) (known_over lent entries known p)
 is_shared {lent = lent} {entries = entries} {known = known} knows y p own no_faults no_calls shown is = record {

@@ -42,9 +42,9 @@ IsLentAs specs (Some values) (Some known) = (key : List ℕ) → IsTrue (is_serv
 IsLentAs specs values known = ⊥
 
 -- the made keys that are known to be held; where the values aren't told every key counts as seen
-abbrev pub seen_of : List Spec → Option Contents → List ℕ → Bool
-seen_of specs None key = true
-seen_of specs (Some known) key = is_made specs key && is_there (known key)
+abbrev pub seen_among : List Spec → Option Contents → List ℕ → Bool
+seen_among specs None key = true
+seen_among specs (Some known) key = is_made specs key && is_there (known key)
 
 -- the promise, where the values are told
 abbrev pub told_with : Option Contents → Contents → Option Contents

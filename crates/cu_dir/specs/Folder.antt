@@ -10,18 +10,18 @@ use Rattle.cu_dir.specs.declared.folder.Folder.{Folder}
 use Rattle.cu_dir.specs.declared.folder.FolderHand.{FolderHand}
 
 -- the keys that are lent, and their promise
-abbrev pub lent_in : Loan → Lent
-lent_in l = record { specs = l.keys.value; promise = bytes_under l.promise.value.map }
+abbrev pub loan_lent : Loan → Lent
+loan_lent l = record { specs = l.keys.value; promise = bytes_under l.promise.value.map }
 
 -- the path of the folder of which they are lent
-abbrev pub folder_in : Loan → List ℕ
-folder_in l = string_bytes l.folder
+abbrev pub loan_folder : Loan → List ℕ
+loan_folder l = string_bytes l.folder
 
-abbrev pub lent_of : {T : Type 0} → Folder T → Lent
-lent_of c = lent_in c.loan
+abbrev pub common_lent : {T : Type 0} → Folder T → Lent
+common_lent c = loan_lent c.loan
 
-abbrev pub folder_of : {T : Type 0} → Folder T → List ℕ
-folder_of c = folder_in c.loan
+abbrev pub common_folder : {T : Type 0} → Folder T → List ℕ
+common_folder c = loan_folder c.loan
 
 -- whether its new files are synced before they are put in place
 abbrev pub synced_by : {T : Type 0} → (T → Bool) → Folder T → Bool
@@ -29,18 +29,18 @@ synced_by synced c = synced c.tree
 
 -- the values as they were when the folder was lent
 abbrev pub entries_by : {T : Type 0} → (T → Option Contents) → Folder T → Option Contents
-entries_by files c = values_under (folder_of c) (files c.tree)
+entries_by files c = values_under (common_folder c) (files c.tree)
 
 -- the values that a hand knows
 abbrev pub known_by : {T : Type 0} → (T → Option Contents) → FolderHand T → Option Contents
 known_by files h = values_under (string_bytes h.folder.value) (files h.known.value)
 
 -- a hand of this folder
-pub record IsHandOf {T : Type 0} (files : T → Option Contents) (c : Folder T) (h : FolderHand T) : Type 0 where
+pub record IsFolderHand {T : Type 0} (files : T → Option Contents) (c : Folder T) (h : FolderHand T) : Type 0 where
   pub folder : h.folder.value ≡ c.loan.folder
-  pub knows : KnowsOf (lent_of c) (entries_by files c) (known_by files h)
+  pub knows : KnowsOf (common_lent c) (entries_by files c) (known_by files h)
 
 -- what its hands may know
-pub folder_laws : {T : Type 0} (files : T → Option Contents) (c : Folder T) (h : FolderHand T) → IsHandOf files c h
-    → KnowsOf (lent_of c) (entries_by files c) (known_by files h)
+pub folder_laws : {T : Type 0} (files : T → Option Contents) (c : Folder T) (h : FolderHand T) → IsFolderHand files c h
+    → KnowsOf (common_lent c) (entries_by files c) (known_by files h)
 folder_laws files c h own = own.knows

@@ -5,7 +5,7 @@ ghost use Rattle.cu_store.specs.Share.{Lent, KeysDiffer, IsPromiseOf, HoldsPromi
 ghost use Rattle.cu_store.specs.Yard.{MayPut, bytes_under};
 ghost use Rattle.cu_dir.specs.Names.{IsFileKey};
 ghost use Rattle.cu_dir.specs.Tree.{ReadsFile, values_under};
-ghost use Rattle.cu_dir.specs.Common.{KnowsOf, LearnsAt, IsUnion, served_as, seen_of, IsLentAs, IsPutUnder};
+ghost use Rattle.cu_dir.specs.Common.{KnowsOf, LearnsAt, IsUnion, served_as, seen_among, IsLentAs, IsPutUnder};
 
 use crate::keys::Keys;
 use crate::tree::Tree;
@@ -107,7 +107,7 @@ pub trait Lend: Tree {
     )
         requires own { Self.Common.owns common hand }
         requires held { HoldsPromised (Self.Common.lent common) (values_under folder.now (Self.files self.old)) }
-        ensures held { HoldsSeen (Self.Common.lent common) (seen_of (Self.Common.lent common).specs (Self.Common.known hand)) (values_under folder.now (Self.files self.new)) }
+        ensures held { HoldsSeen (Self.Common.lent common) (seen_among (Self.Common.lent common).specs (Self.Common.known hand)) (values_under folder.now (Self.files self.new)) }
         ensures put { IsPutUnder folder.now (Self.Common.lent common) (Self.files self.old) (Self.files self.new) }
         ensures as_set { Self.synced self.new ≡ Self.synced self.old };
 }

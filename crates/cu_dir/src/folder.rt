@@ -3,7 +3,7 @@ ghost use Rattle.std.specs.Prelude.{◌≡◌, IfOk, string_bytes};
 ghost use Rattle.cu_store.specs.Share.{HoldsPromised};
 ghost use Rattle.cu_store.specs.Yard.{bytes_under};
 ghost use Rattle.cu_dir.specs.Common.{LearnsAt, IsUnion, IsLentAs};
-ghost use Rattle.cu_dir.specs.Folder.{lent_in, folder_in, lent_of, folder_of, synced_by, entries_by, known_by, IsHandOf, folder_laws};
+ghost use Rattle.cu_dir.specs.Folder.{loan_lent, loan_folder, common_lent, common_folder, synced_by, entries_by, known_by, IsFolderHand, folder_laws};
 ghost use Rattle.cu_dir.specs.Tree.{values_under};
 
 use crate::common::Common;
@@ -27,8 +27,8 @@ pub struct Loan {
 impl Loan {
     /// These keys under this folder, with their promise.
     pub(crate) fn new(alloc: Global, folder: String, keys: &Keys, promise: &Promise) -> Loan
-        ensures lent { lent_in result ≡ record { specs = keys.now; promise = bytes_under promise.now.map } }
-        ensures folder { folder_in result ≡ string_bytes folder }
+        ensures lent { loan_lent result ≡ record { specs = keys.now; promise = bytes_under promise.now.map } }
+        ensures folder { loan_folder result ≡ string_bytes folder }
     {
         Loan {
             alloc,
@@ -44,7 +44,7 @@ pub trait Handles: Tree {
     /// A handle that goes on where another was that knew this much. Under the key it may find what others have put there meanwhile,
     /// the promised bytes; else it knows the same values.
     fn go_on(&self, known: &Snapshot<Self>, loan: &Loan, key: &Key) -> io::Result<Self>
-        ensures found { IfOk result (λ t. LearnsAt (lent_in loan.now) key.now (values_under (folder_in loan.now) (Self.files known.now.value)) (values_under (folder_in loan.now) (Self.files t))) }
+        ensures found { IfOk result (λ t. LearnsAt (loan_lent loan.now) key.now (values_under (loan_folder loan.now) (Self.files known.now.value)) (values_under (loan_folder loan.now) (Self.files t))) }
         ensures as_set { IfOk result (λ t. Self.synced t ≡ Self.synced self.now) };
 
     /// What two handles knew, in one. The proofs alone know it.
@@ -71,12 +71,12 @@ impl<T: Handles + Drop> Folder<T> {
     /// What is lent of this tree, and a hand that knows what the tree tells. The made keys hold nothing but the promised bytes.
     #[tactic(auto, using(crate::proofs::FolderLemmas::knows_first, crate::proofs::FolderLemmas::lent_first))]
     pub(crate) fn new(tree: T, loan: Loan) -> (Folder<T>, FolderHand<T>)
-        requires held { HoldsPromised (lent_in loan) (values_under (folder_in loan) (T.files tree)) }
-        ensures own { IsHandOf T.files result.0 result.1 }
-        ensures lent { lent_of result.0 ≡ lent_in loan }
-        ensures folder { folder_of result.0 ≡ folder_in loan }
+        requires held { HoldsPromised (loan_lent loan) (values_under (loan_folder loan) (T.files tree)) }
+        ensures own { IsFolderHand T.files result.0 result.1 }
+        ensures lent { common_lent result.0 ≡ loan_lent loan }
+        ensures folder { common_folder result.0 ≡ loan_folder loan }
         ensures synced { synced_by T.synced result.0 ≡ T.synced tree }
-        ensures known { IsLentAs (lent_in loan).specs (values_under (folder_in loan) (T.files tree)) (known_by T.files result.1) }
+        ensures known { IsLentAs (loan_lent loan).specs (values_under (loan_folder loan) (T.files tree)) (known_by T.files result.1) }
     {
         let hand = FolderHand {
             known: Snapshot::of(&tree),
@@ -89,9 +89,9 @@ impl<T: Handles + Drop> Folder<T> {
 impl<T: Handles + Drop> Common for Folder<T> {
     type Hand = FolderHand<T>;
 
-    ghost lent = { lent_of };
+    ghost lent = { common_lent };
 
-    ghost folder = { folder_of };
+    ghost folder = { common_folder };
 
     ghost synced = { synced_by T.synced };
 
@@ -99,7 +99,7 @@ impl<T: Handles + Drop> Common for Folder<T> {
 
     ghost known = { known_by T.files };
 
-    ghost owns = { IsHandOf T.files };
+    ghost owns = { IsFolderHand T.files };
 
     ghost laws = { folder_laws T.files };
 
