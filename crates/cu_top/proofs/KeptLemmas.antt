@@ -34,16 +34,16 @@ use Rattle.cu_command.specs.declared.status.Status.TheVariants.{ReadFault, NoMem
 use Rattle.cu_top.proofs.LawLemmas.{run_is_command, begin_is_command, part_is_command, resume_is_command, drop_is_command}
 use Rattle.cu_top.proofs.PlanLemmas.{differs, used_differs}
 use Rattle.cu_top.proofs.ResultLemmas.{FormSays, said_so}
-use Rattle.cu_top.specs.Begin.{BeginTells}
-use Rattle.cu_top.specs.Call.{AreSpared, RunTells}
-use Rattle.cu_top.specs.Drop.{DropTells}
+use Rattle.cu_top.specs.Begin.{BeginTells, IsBeginShort}
+use Rattle.cu_top.specs.Call.{AreSpared, CameToRun, RunTells}
+use Rattle.cu_top.specs.Drop.{DropTells, IsDropShort}
 use Rattle.cu_top.specs.Kept.{AreInputsSettled, Elsewhere, IsInputKeyOf, IsUsed, LeavesInputs}
 use Rattle.cu_top.specs.Laws.{IsOfPlan}
-use Rattle.cu_top.specs.Parts.{PartTells}
+use Rattle.cu_top.specs.Parts.{IsPartShort, PartTells}
 use Rattle.cu_top.specs.Prepare.{HasNoOwnInput, HasPlan, out_metadata}
 use Rattle.cu_top.specs.Record.{record_text}
-use Rattle.cu_top.specs.Resume.{ResumeTells}
-use Rattle.cu_top.specs.Run.{RunCase, Scene, case, job_run, plan_in, IsAccepted}
+use Rattle.cu_top.specs.Resume.{IsResumeShort, ResumeTells}
+use Rattle.cu_top.specs.Run.{RunCase, Scene, case, job_run, plan_in, IsAccepted, IsWanting}
 
 -- ---- names that are used
 
@@ -163,35 +163,35 @@ module _ (laws : KeyLaws) (o : Options) (old new : Scene) (text : List ℕ) (has
       stepped_wider (λ key value outside input. outside (also_read said key read input))
       (of_plan_leaves laws (case o said old new) command)
 
+  short_leaves : (W : RunCase → Type 0) → ((c : RunCase) → W c → IsOfPlan c)
+      → AreSpared old new ⊎ CameToRun o old new W → LeavesInputs text old.depot new.depot
+  short_leaves W command (inl spared) = spared_leaves spared
+  short_leaves W command (inr (said, read, was)) = came_leaves said read (command (case o said old new) was)
+
   module _ (lack : Bool) where
     pub run_leaves : (status : Status) → RunTells lack o old new status → LeavesInputs text old.depot new.depot
-    run_leaves ReadFault (rose, spared) = spared_leaves spared
-    run_leaves NoMemory (inl spared) = spared_leaves spared
-    run_leaves NoMemory (inr (said, read, ran)) = came_leaves said read (run_is_command (case o said old new) lack NoMemory ran)
+    run_leaves ReadFault tells = spared_leaves tells.1
+    run_leaves NoMemory tells = short_leaves (IsWanting lack) (λ c ran. run_is_command c lack NoMemory ran) tells
     run_leaves status (said, read, ran) = came_leaves said read (run_is_command (case o said old new) lack status ran)
 
     pub resume_leaves : (status : Status) → ResumeTells lack o old new status → LeavesInputs text old.depot new.depot
-    resume_leaves ReadFault (rose, spared) = spared_leaves spared
-    resume_leaves NoMemory (inl spared) = spared_leaves spared
-    resume_leaves NoMemory (inr (said, read, was)) = came_leaves said read (resume_is_command (case o said old new) lack NoMemory was)
+    resume_leaves ReadFault tells = spared_leaves tells.1
+    resume_leaves NoMemory tells = short_leaves (IsResumeShort lack) (λ c was. resume_is_command c lack NoMemory was) tells
     resume_leaves status (said, read, was) = came_leaves said read (resume_is_command (case o said old new) lack status was)
 
   pub begin_leaves : (status : Status) → BeginTells o old new status → LeavesInputs text old.depot new.depot
-  begin_leaves ReadFault (rose, spared) = spared_leaves spared
-  begin_leaves NoMemory (inl spared) = spared_leaves spared
-  begin_leaves NoMemory (inr (said, read, was)) = came_leaves said read (begin_is_command (case o said old new) NoMemory was)
+  begin_leaves ReadFault tells = spared_leaves tells.1
+  begin_leaves NoMemory tells = short_leaves IsBeginShort (λ c was. begin_is_command c NoMemory was) tells
   begin_leaves status (said, read, was) = came_leaves said read (begin_is_command (case o said old new) status was)
 
   pub part_leaves : (q : Part) (status : Status) → PartTells o q old new status → LeavesInputs text old.depot new.depot
-  part_leaves q ReadFault (rose, spared) = spared_leaves spared
-  part_leaves q NoMemory (inl spared) = spared_leaves spared
-  part_leaves q NoMemory (inr (said, read, was)) = came_leaves said read (part_is_command (case o said old new) q NoMemory was)
+  part_leaves q ReadFault tells = spared_leaves tells.1
+  part_leaves q NoMemory tells = short_leaves (λ c. IsPartShort c q) (λ c was. part_is_command c q NoMemory was) tells
   part_leaves q status (said, read, was) = came_leaves said read (part_is_command (case o said old new) q status was)
 
   pub drop_leaves : (status : Status) → DropTells o old new status → LeavesInputs text old.depot new.depot
-  drop_leaves ReadFault (rose, spared) = spared_leaves spared
-  drop_leaves NoMemory (inl spared) = spared_leaves spared
-  drop_leaves NoMemory (inr (said, read, was)) = came_leaves said read (drop_is_command (case o said old new) NoMemory was)
+  drop_leaves ReadFault tells = spared_leaves tells.1
+  drop_leaves NoMemory tells = short_leaves IsDropShort (λ c was. drop_is_command c NoMemory was) tells
   drop_leaves status (said, read, was) = came_leaves said read (drop_is_command (case o said old new) status was)
 
 -- ---- where nothing was late under a key of an input

@@ -167,6 +167,7 @@ module _ (laws : TextLaws) (c : RunCase) (left : List ℕ) (entry now : Contents
       (subst (λ (h : Option Contents). Holds h key bytes) told_now there)
 
   pub result_now : HoldsResult left entry now
+  unfolding made
   result_now = record {
     job = job;
     said = (laws.form left job.expr).0
