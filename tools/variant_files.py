@@ -4,7 +4,7 @@
 usage: tools/variant_files.py [--files] [NAME..]
 
 A form is a variant of `Form` in cu_form, a kind of operation one of `Op` in cu_op. A file counts where it names the variant of that type,
-comments aside; worked examples and the crates of tests don't count. It prints a line for each: its files, those of code and definitions,
+comments aside; worked examples, samples and the crates of tests don't count. It prints a line for each: its files, those of code and definitions,
 those of proofs, and how many each crate has. --files prints their paths too. Where a form other than an input stands in more than 20 files,
 or a kind of operation in more than 17, the last line says so, and the status is 1.
 """
@@ -46,13 +46,18 @@ def variants(counted: Counted, top: str) -> list[str]:
     return re.findall(r"(?m)^    (\w+)", body[1])
 
 
+def is_worked(name: str) -> bool:
+    """Whether a file has worked examples or a sample, which somebody who adds a form leaves as they are."""
+    return "Examples" in name or name.startswith("Sample")
+
+
 def texts(top: str) -> Iterator[tuple[str, str]]:
     """The files that count, each by its path below the crates."""
     for crate in sorted(os.listdir(f"{top}/crates")):
         for part in ("src", "specs", "proofs"):
             for folder, _, names in os.walk(f"{top}/crates/{crate}/{part}"):
                 for name in sorted(names):
-                    if name.endswith((".rt", ".antt")) and not crate.startswith("test_") and "Examples" not in name:
+                    if name.endswith((".rt", ".antt")) and not crate.startswith("test_") and not is_worked(name):
                         path = os.path.join(folder, name)
                         yield os.path.relpath(path, f"{top}/crates"), without_comments(path)
 

@@ -166,7 +166,11 @@ class Answers(WithProgram):
             both.compute()
         self.assertEqual((found.exception.key, found.exception.got, found.exception.want), ("y/c/1", 17, 16))
         os.unlink(os.path.join(folder, "y", "c", "1"))
+        # A folder is no value: the chunk is absent.
         os.mkdir(os.path.join(folder, "y", "c", "1"))
+        self.assertEqual((both - self.t).compute()[4:].tolist(), [0, 0])
+        os.rmdir(os.path.join(folder, "y", "c", "1"))
+        os.mkfifo(os.path.join(folder, "y", "c", "1"))
         with self.assertRaises(cengmoat.TaskFailed) as found:
             both.compute()
         self.assertEqual((found.exception.op, found.exception.task), (0, 1))
