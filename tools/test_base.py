@@ -166,7 +166,7 @@ class WithProgram(InFolder):
         return process.returncode, told.decode().replace("\r\n", "\n"), printed.decode()
 
 
-def wait_until(holds, seconds=30):
+def wait_until(holds, seconds=120):
     """Whether something comes to hold in time."""
     end = time.monotonic() + seconds
     while time.monotonic() < end:
